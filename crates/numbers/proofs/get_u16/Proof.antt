@@ -1,0 +1,21 @@
+-- `numbers::get_u16` meets its contract: a number of 2 bytes fits a u16. Assumes nothing.
+use borrow.Author.Needs.{needs}
+use Rattle.base.specs.Bytes.{Bytes}
+use Rattle.numbers.proofs.BigEndian.{beOf-part-lt}
+use Rattle.numbers.proofs.get_u16.Statement.{statement}
+use Rattle.numbers.proofs.get_u16.Tie as tie
+
+get-requires : tie.Need-get-requires
+get-requires c κs = search needs
+
+cast-result : tie.Need-cast-result
+cast-result c =
+    let start = c .before .before in
+    let bytes : Bytes (start .args .s .now) = λ i. c .before .shared-slice-known .given i .fits in
+    rw (c .get .ensures) (record { fits = beOf-part-lt (start .args .s .now) (start .args .at) 2 bytes (start .pre) })
+
+returns : tie.Need-returns
+returns c = search needs
+
+pub get-u16-spec : {M : Type 1} → statement M
+get-u16-spec = tie.close (tie.spec get-requires cast-result returns)

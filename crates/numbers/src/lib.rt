@@ -1,0 +1,150 @@
+// Numbers of 1 to 4 bytes in a slice, highest byte first. One reader and one writer serve every width.
+ghost use mathlib.Core.Path.{_≡_};
+ghost use Prim.Native.Nat.{_+_, _/_, _^_, _≤_, _<_};
+ghost use lib.ListN.{length};
+ghost use Rattle.numbers.specs.BigEndian.{beOf, bytesOf};
+ghost use Rattle.numbers.specs.TwosComplement.{signedOf, twosOf};
+ghost use Rattle.base.specs.Parts.{part, pasted};
+
+fn wide(b: u8) -> u32
+    ensures { λ r. ⌜ r ≡ b ⌝ }
+{
+    b as u32
+}
+
+// The unsigned number of the `width` bytes from `at`.
+pub fn get(s: &[u8], at: usize, width: usize) -> u32
+    requires { ⌜ (width ≤ 4) × (at + width ≤ length (now s)) ⌝ }
+    ensures { λ r. ⌜ r ≡ beOf (part (now (s .entry)) at width) ⌝ }
+{
+    let mut n: u32 = 0;
+    let mut i = 0;
+    while i < width {
+        n = n * 256 + wide(s[at + i]);
+        i += 1;
+    }
+    n
+}
+
+pub fn get_u8(s: &[u8], at: usize) -> u8
+    requires { ⌜ at + 1 ≤ length (now s) ⌝ }
+    ensures { λ r. ⌜ r ≡ beOf (part (now (s .entry)) at 1) ⌝ }
+{
+    get(s, at, 1) as u8
+}
+
+pub fn get_u16(s: &[u8], at: usize) -> u16
+    requires { ⌜ at + 2 ≤ length (now s) ⌝ }
+    ensures { λ r. ⌜ r ≡ beOf (part (now (s .entry)) at 2) ⌝ }
+{
+    get(s, at, 2) as u16
+}
+
+// Writes the low `width` bytes of `n` from `at`, from the last to the first.
+pub fn put(out: &mut [u8], at: usize, width: usize, n: u32)
+    requires { ⌜ at + width ≤ length (now out) ⌝ }
+    ensures { λ _. ⌜ now (out .exit) ≡ pasted (now (out .entry)) at (bytesOf width n) ⌝ }
+{
+    let mut rest = n;
+    let mut left = width;
+    while 0 < left {
+        left -= 1;
+        out[at + left] = (rest % 256) as u8;
+        rest = rest / 256;
+    }
+}
+
+pub fn put_u8(out: &mut [u8], at: usize, v: u8)
+    requires { ⌜ at + 1 ≤ length (now out) ⌝ }
+    ensures { λ _. ⌜ now (out .exit) ≡ pasted (now (out .entry)) at (bytesOf 1 v) ⌝ }
+{
+    put(out, at, 1, v as u32);
+}
+
+pub fn put_u16(out: &mut [u8], at: usize, v: u16)
+    requires { ⌜ at + 2 ≤ length (now out) ⌝ }
+    ensures { λ _. ⌜ now (out .exit) ≡ pasted (now (out .entry)) at (bytesOf 2 v) ⌝ }
+{
+    put(out, at, 2, v as u32);
+}
+
+// The first number of a width that stands for a negative one: half of the width's numbers lie below it.
+fn half(width: usize) -> u32
+    requires { ⌜ (0 < width) × (width ≤ 4) ⌝ }
+    ensures { λ r. ⌜ r ≡ 256 ^ width / 2 ⌝ }
+{
+    match width {
+        1 => 0x80,
+        2 => 0x8000,
+        3 => 0x80_0000,
+        _ => 0x8000_0000,
+    }
+}
+
+// The number that `n` stands for in two's complement of `width` bytes.
+fn signed(n: u32, width: usize) -> i32
+    requires { ⌜ (0 < width) × (width ≤ 4) × (n < 256 ^ width) ⌝ }
+    ensures { λ r. ⌜ r ≡ signedOf width n ⌝ }
+{
+    let h = half(width);
+    if n < h {
+        n as i32
+    } else {
+        -1 - ((h - 1 - (n - h)) as i32)
+    }
+}
+
+// The signed number of the `width` bytes from `at`.
+pub fn get_signed(s: &[u8], at: usize, width: usize) -> i32
+    requires { ⌜ (0 < width) × (width ≤ 4) × (at + width ≤ length (now s)) ⌝ }
+    ensures { λ r. ⌜ r ≡ signedOf width (beOf (part (now (s .entry)) at width)) ⌝ }
+{
+    signed(get(s, at, width), width)
+}
+
+pub fn get_i16(s: &[u8], at: usize) -> i16
+    requires { ⌜ at + 2 ≤ length (now s) ⌝ }
+    ensures { λ r. ⌜ r ≡ signedOf 2 (beOf (part (now (s .entry)) at 2)) ⌝ }
+{
+    get_signed(s, at, 2) as i16
+}
+
+pub fn get_i8(s: &[u8], at: usize) -> i8
+    requires { ⌜ at + 1 ≤ length (now s) ⌝ }
+    ensures { λ r. ⌜ r ≡ signedOf 1 (beOf (part (now (s .entry)) at 1)) ⌝ }
+{
+    get_signed(s, at, 1) as i8
+}
+
+// The 32 bits of `v` in two's complement.
+fn bits(v: i32) -> u32
+    ensures { λ r. ⌜ r ≡ twosOf 4 v ⌝ }
+{
+    if v < 0 {
+        0xFFFF_FFFF - ((-1 - v) as u32)
+    } else {
+        v as u32
+    }
+}
+
+// Writes the low `width` bytes of `v` in two's complement from `at`.
+pub fn put_signed(out: &mut [u8], at: usize, width: usize, v: i32)
+    requires { ⌜ (width ≤ 4) × (at + width ≤ length (now out)) ⌝ }
+    ensures { λ _. ⌜ now (out .exit) ≡ pasted (now (out .entry)) at (bytesOf width (twosOf width v)) ⌝ }
+{
+    put(out, at, width, bits(v));
+}
+
+pub fn put_i16(out: &mut [u8], at: usize, v: i16)
+    requires { ⌜ at + 2 ≤ length (now out) ⌝ }
+    ensures { λ _. ⌜ now (out .exit) ≡ pasted (now (out .entry)) at (bytesOf 2 (twosOf 2 v)) ⌝ }
+{
+    put_signed(out, at, 2, v as i32);
+}
+
+pub fn put_i8(out: &mut [u8], at: usize, v: i8)
+    requires { ⌜ at + 1 ≤ length (now out) ⌝ }
+    ensures { λ _. ⌜ now (out .exit) ≡ pasted (now (out .entry)) at (bytesOf 1 (twosOf 1 v)) ⌝ }
+{
+    put_signed(out, at, 1, v as i32);
+}
