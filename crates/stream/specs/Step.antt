@@ -1,0 +1,87 @@
+-- What one call of the code shows, and that it is the reading's call.
+-- Assumes nothing.
+use Prim.Native.Nat.{ℕ, _≤_}
+use mathlib.Core.Path.{_≡_}
+use mathlib.Core.List.{List, [], _∷_}
+use mathlib.Core.Bool.{Bool, true, false, cond, _&&_}
+use lib.ListN.{length, getD, take, drop}
+use lib.Dec.{eqb, ltb, leb}
+use Rattle.crc.specs.declared.Check.{Check}
+use Rattle.crc.specs.declared.Check.the-variants.{Right, Wrong}
+use Rattle.reading.specs.Answer as reading
+use Rattle.reading.specs.Reading.{First, stop, says}
+use Rattle.reading.specs.Call.{Call, call}
+use Rattle.stream.specs.Places.{heldIn}
+use Rattle.stream.specs.declared.step.Answer.{Answer}
+use Rattle.stream.specs.declared.step.Answer.the-variants.{Stop, InPiece, InHeld, InvalidSync, InvalidPacketLength, InvalidCrc, BadState}
+use Rattle.stream.specs.declared.step.Moved.{Moved}
+
+-- ---- What a call says: more is needed, a frame (of the held bytes or of the piece, and its bytes), or a number of document 01 with what it
+-- carries
+pub data Said : Type 0 where
+  more : Said
+  frame : (ofHeld : Bool) (bytes : List ℕ) → Said
+  refused : (number : ℕ) (carried : List ℕ) → Said
+
+abbrev refusal : reading.Answer → Said
+refusal a = refused (reading.number a) (reading.values a)
+
+-- by the reading
+unfoldable pub saidOf : Bool → First → Said
+saidOf ofHeld stop = more
+saidOf ofHeld (says (reading.InvalidSync c)) = refusal (reading.InvalidSync c)
+saidOf ofHeld (says (reading.InvalidPacketLength c)) = refusal (reading.InvalidPacketLength c)
+saidOf ofHeld (says (reading.InvalidCrc c)) = refusal (reading.InvalidCrc c)
+saidOf ofHeld (says (reading.Frame c)) = frame ofHeld c
+
+-- by the code, given the caller's piece and the held bytes' places after the call
+unfoldable pub meaningOf : Answer → List ℕ → List ℕ → Said
+meaningOf Stop piece places = more
+meaningOf (InPiece n) piece places = frame false (take n piece)
+meaningOf (InHeld at n) piece places = frame true (take n (drop at places))
+meaningOf (InvalidSync b) piece places = refused 1 (b ∷ [])
+meaningOf (InvalidPacketLength l) piece places = refused 2 (l ∷ [])
+meaningOf (InvalidCrc calculated carried) piece places = refused 3 (calculated ∷ carried ∷ [])
+meaningOf BadState piece places = refused 8 []
+
+-- ---- One call
+pub record Outcome : Type 0 where
+  pub said : Said
+  pub taken : ℕ
+  pub held : List ℕ
+
+-- a frame is of the held bytes where some were held
+abbrev pub outcomeOf : ℕ → List ℕ → List ℕ → Outcome
+outcomeOf m held input = record {
+  said = saidOf (ltb 0 (length held)) (call m held input .answer);
+  taken = call m held input .taken;
+  held = call m held input .held;
+}
+
+abbrev pub shownBy : Moved → List ℕ → List ℕ → Outcome
+shownBy r input places = record { said = meaningOf (r .answer) input places; taken = r .taken; held = heldIn places (r .start) (r .end) }
+
+pub record Moves (m : ℕ) (before : List ℕ) (start end : ℕ) (input after : List ℕ) (r : Moved) : Type 0 where
+  pub ordered : r .start ≤ r .end
+  pub inside : r .end ≤ m
+  pub outcome : shownBy r input after ≡ outcomeOf m (heldIn before start end) input
+
+-- a start and an end that mark a part of m places, which may hold a frame
+abbrev pub isSpan : ℕ → ℕ → ℕ → Bool
+isSpan m start end = leb 4 m && (leb start end && leb end m)
+
+pub record Steps (m : ℕ) (before : List ℕ) (start end : ℕ) (input after : List ℕ) (r : Moved) : Type 0 where
+  pub refuses : isSpan m start end ≡ false → (r ≡ record { start = start; end = end; taken = 0; answer = BadState }) × (after ≡ before)
+  pub moves : isSpan m start end ≡ true → Moves m before start end input after r
+
+-- ---- Parts of the step
+abbrev pub faultOf : ℕ → List ℕ → Answer
+faultOf size s = cond (eqb size 1) (InvalidSync (getD s 0 0)) (InvalidPacketLength (getD s 1 0))
+
+abbrev pub droppedOf : Check → ℕ → ℕ
+droppedOf Right size = size
+droppedOf (Wrong a b) size = 1
+
+abbrev pub answerOf : Check → Answer → Answer
+answerOf Right whole = whole
+answerOf (Wrong a b) whole = InvalidCrc a b
