@@ -1,0 +1,25 @@
+-- What is written is a valid frame, and its reading is that frame.
+-- Assumes nothing.
+use mathlib.Core.Path.{_≡_, refl, sym, ap, subst, _∙_}
+use mathlib.Core.Bool.{Bool, true, false, true≢false}
+use mathlib.Core.List.{List, [], _∷_, _++_, append-nil}
+use Prim.Native.Nat.{ℕ, suc, _≤_}
+use native.Mathlib.Omega.{arith}
+use lib.ListN.{length}
+use Rattle.packets.specs.Listed.{listed}
+use Rattle.reading.specs.Answer.{Frame}
+use Rattle.reading.specs.Reading.{Reading, reading, _⊕_}
+use Rattle.reading.specs.Frame.{frame, Valid, AllValid}
+use Rattle.reading.proofs.Tests.{good-length}
+use Rattle.reading.proofs.Frame.{frame-valid, frames-read}
+
+module _ (dest kind : ℕ) (payload : List ℕ) (address : listed dest ≡ true) (few : length payload ≤ 60) where
+  pub written-valid : Valid 64 (frame dest (kind ∷ payload))
+  written-valid = frame-valid dest (kind ∷ payload) 64 address (good-length 64 _ (omega arith) (omega arith))
+
+  -- whatever stands behind it
+  pub written-reads : (more : List ℕ)
+      → reading 64 (frame dest (kind ∷ payload) ++ more) ≡ (Frame (frame dest (kind ∷ payload)) ∷ []) ⊕ reading 64 more
+  written-reads more =
+      ap (λ (s : List ℕ). reading 64 (s ++ more)) (sym (append-nil (frame dest (kind ∷ payload))))
+      ∙ frames-read 64 (frame dest (kind ∷ payload) ∷ []) more (written-valid, tt)
