@@ -9,7 +9,7 @@ use native.Mathlib.Numerals.{add-one}
 use native.Mathlib.Omega.{arith}
 use lib.Dec.{lit<}
 use lib.ListN.{length, getD, take, drop, set, length-append, length-take, length-drop, take-append-drop, List·getD-eq-default}
-use lib.Seq.{length-take-le, take-suc, getD-drop, getD-take, set-at, append-snoc, take-at, drop-at, drop-drop, take-nil}
+use lib.Seq.{length-take-le, take-suc, getD-drop, getD-take, set-at, append-snoc, take-at, drop-at, drop-drop, take-nil, paste, paste-suc}
 use Rattle.base.specs.Bytes.{Bytes}
 use Rattle.base.specs.Parts.{part, pasted}
 use Rattle.base.proofs.Tests.{below}
@@ -75,6 +75,16 @@ module _ (d : List ℕ) where
   pub pasted-front : (vs : List ℕ) → pasted d 0 vs ≡ vs ++ drop (length vs) d
   unfolding pasted
   pasted-front vs = rw zero-add
+
+-- one turn of a copy from place at on: the code's store, with the code's i + 1
+pub paste-more : (d : List ℕ) (at : ℕ) (s : List ℕ) (i : ℕ) → at + i < length d → i < length s
+    → set (paste d at s i) (at + i) (getD s i 0) ≡ paste d at s (i + 1)
+paste-more d at s i hd hs = rw add-one (paste-suc d at s i 0 hd hs)
+
+-- a copy of some first elements, as a part that is replaced
+pub paste-pasted : (d s : List ℕ) (at n : ℕ) → n ≤ length s → paste d at s n ≡ pasted d at (take n s)
+unfolding pasted
+paste-pasted d s at n h = ap (λ (k : ℕ). take at d ++ take n s ++ drop (at + k) d) (sym (length-take-le n s h))
 
 -- what is left of a front part, as a part
 pub drop-take : (a t : ℕ) (l : List ℕ) → drop a (take t l) ≡ take (t - a) (drop a l)

@@ -1,1 +1,17 @@
-// What every crate above needs of lists and tests stands in specs/ and proofs/. There is no code here.
+// What every crate above needs of lists and tests stands in specs/ and proofs/; and the one copy of bytes from a slice to a slice.
+ghost use mathlib.Core.Path.{_≡_};
+ghost use Prim.Native.Nat.{_+_, _≤_};
+ghost use lib.ListN.{length};
+ghost use lib.Seq.{paste};
+
+// The first count bytes of src go to dst, from place at on. The bytes beside stay.
+pub fn copy_in(dst: &mut [u8], at: usize, src: &[u8], count: usize)
+    requires { ⌜ (at + count ≤ length (now dst)) × (count ≤ length (now src)) ⌝ }
+    ensures { λ _. ⌜ now (dst .exit) ≡ paste (now (dst .entry)) at (now (src .entry)) count ⌝ }
+{
+    let mut i = 0;
+    while i < count {
+        dst[at + i] = src[i];
+        i += 1;
+    }
+}

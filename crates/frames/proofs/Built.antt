@@ -6,16 +6,11 @@ use Prim.Native.Nat.{ℕ, suc, _+_, _≤_}
 use native.Mathlib.Nat.{zero-add}
 use native.Mathlib.Omega.{arith}
 use lib.ListN.{length, take, drop, length-append}
-use lib.Seq.{slice, paste, take-at, length-take-le}
+use lib.Seq.{slice, take-at}
 use Rattle.base.specs.Parts.{pasted}
 use Rattle.base.proofs.Parts.{pasted-append, pasted-front}
 use Rattle.crc.specs.Remainder.{remainder}
 use Rattle.reading.specs.Frame.{frame}
-
--- a copy of some first elements, as a part that is replaced
-pub paste-pasted : (d s : List ℕ) (at n : ℕ) → n ≤ length s → paste d at s n ≡ pasted d at (take n s)
-unfolding pasted
-paste-pasted d s at n h = ap (λ (k : ℕ). take at d ++ take n s ++ drop (at + k) d) (sym (length-take-le n s h))
 
 module _ (pay : List ℕ) (n dest kind : ℕ) (long : length pay ≡ n) where
   head : List ℕ

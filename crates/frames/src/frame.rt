@@ -1,8 +1,8 @@
 // The frame of a payload that a record's own writer has made.
+use base::copy_in;
 use crc::checksum;
 use layout::Written;
 use packets::is_address;
-use stream::places::copy_in;
 ghost use mathlib.Core.Path.{_≡_};
 ghost use mathlib.Core.List.{[], _∷_};
 ghost use Prim.Native.Nat.{_≤_, _<_};

@@ -11,7 +11,8 @@ use Rattle.crc.specs.Remainder.{remainder}
 use Rattle.reading.specs.Frame.{frame}
 use Rattle.layout.proofs.Writing.{writes, overflows}
 use Rattle.frames.specs.Frames.{framedBody}
-use Rattle.frames.proofs.Built.{paste-pasted, frame-built, frame-size}
+use Rattle.base.proofs.Parts.{paste-pasted}
+use Rattle.frames.proofs.Built.{frame-built, frame-size}
 use Rattle.frames.proofs.frame.put_frame.Statement.{statement}
 use Rattle.frames.proofs.frame.put_frame.Tie as tie
 
