@@ -5,6 +5,7 @@ pub mod Reading
 pub mod Call
 pub mod History
 pub mod Shares
+pub mod Retries
 pub mod Reach
 pub mod Frame
 pub mod Edges
