@@ -12,7 +12,7 @@ pub struct Span {
 }
 
 // The first count bytes of src go to dst, from place at on. The bytes beside stay.
-pub fn copy_in(dst: &mut [u8], at: usize, src: &[u8], count: usize)
+pub(crate) fn copy_in(dst: &mut [u8], at: usize, src: &[u8], count: usize)
     requires { ⌜ (at + count ≤ length (now dst)) × (count ≤ length (now src)) ⌝ }
     ensures { λ _. ⌜ now (dst .exit) ≡ paste (now (dst .entry)) at (now (src .entry)) count ⌝ }
 {
@@ -52,7 +52,7 @@ fn make_room(places: &mut [u8], start: usize, end: usize, count: usize) -> Span
 }
 
 // The first count bytes of the input come behind the held ones.
-pub fn append(places: &mut [u8], start: usize, end: usize, input: &[u8], count: usize) -> Span
+pub(crate) fn append(places: &mut [u8], start: usize, end: usize, input: &[u8], count: usize) -> Span
     requires { ⌜ (start ≤ end) × ((end ≤ length (now places)) × ((end - start + count ≤ length (now places)) × (count ≤ length (now input)))) ⌝ }
     ensures { λ r. ⌜ Appended (now (places .entry)) start end (now (input .entry)) count (now (places .exit)) r ⌝ }
 {
