@@ -6,3 +6,5 @@ pub mod Spans
 pub mod Lents
 pub mod Unique
 pub mod Histories
+pub mod Drain
+pub mod Bounds
