@@ -9,7 +9,7 @@ use lib.Seq.{length-take-le, take-append-seam, take-take, drop-drop}
 use Rattle.packets.specs.Listed.{listed}
 use Rattle.crc.specs.Remainder.{remainder, remainderFrom, afterByte, shifts, shiftBit}
 use Rattle.reading.specs.Answer.{Answer, InvalidSync, InvalidPacketLength, InvalidCrc, Frame, candidate, drops, dropped, allDropped}
-use Rattle.reading.specs.Reading.{stop, says, first, goodLength, passes, Reading, reading, readingPast, _⊕_}
+use Rattle.reading.specs.Reading.{says, first, goodLength, passes, Reading, reading, readingPast, _⊕_}
 use Rattle.reading.specs.Call.{takes, droppedBy, call}
 use Rattle.reading.specs.History.{answered, History, begin, offer, ask}
 use Rattle.reading.specs.Retries.{ping, half, rest}
@@ -56,7 +56,7 @@ stands-at m s (x ∷ before) a after e =
     let h = heads m s x (before ++ a ∷ after) e in
     let z = stands m s x (h .0) in
     let size : length (dropped x ++ allDropped before) ≡ drops x + length (allDropped before) =
-        omega (arith, length-append (dropped x) (allDropped before), length-take-le (drops x) (candidate x) (z .within)) in
+    omega (arith, length-append (dropped x) (allDropped before), length-take-le (drops x) (candidate x) (z .within)) in
     ap (λ (k : ℕ). first m (drop k s)) size
     ∙ ap (first m) (sym (drop-drop (length (allDropped before)) (drops x) s))
     ∙ stands-at m (drop (drops x) s) before a after (h .1)
@@ -76,8 +76,7 @@ module _ {m : ℕ} {stream held unread : List ℕ} {given : List Answer} (h : Hi
       → (1 ≤ drops a) × (length (allDropped before) + drops a ≤ length (allDropped (before ++ a ∷ between)))
   never-twice before a between b after e =
       let z = stands m (drop (length (allDropped before)) stream) a (own-place before a (between ++ b ∷ after) e) in
-      let d = length-take-le (drops a) (candidate a) (z .within) in
-      (
+      let d = length-take-le (drops a) (candidate a) (z .within) in (
         z .some,
         omega (
           arith,
