@@ -9,10 +9,10 @@ use lib.Seq.{length-take-le, take-append-seam, take-take, drop-drop}
 use Rattle.packets.specs.Listed.{listed}
 use Rattle.crc.specs.Remainder.{remainder, remainderFrom, afterByte, shifts, shiftBit}
 use Rattle.reading.specs.Answer.{Answer, InvalidSync, InvalidPacketLength, InvalidCrc, Frame, candidate, drops, dropped, allDropped}
-use Rattle.reading.specs.Reading.{says, first, goodLength, passes, Reading, reading, readingPast, _⊕_}
+use Rattle.reading.specs.Reading.{stop, says, first, goodLength, passes, Reading, reading, readingPast, _⊕_}
 use Rattle.reading.specs.Call.{takes, droppedBy, call}
 use Rattle.reading.specs.History.{answered, History, begin, offer, ask}
-use Rattle.reading.specs.Retries.{ping, half, rest}
+use Rattle.reading.specs.Retries.{ping, half, rest, spoilt}
 use Rattle.reading.proofs.First.{stands}
 use Rattle.reading.proofs.Reading.{heads, read-on}
 use Rattle.reading.proofs.History.{so-now, faithful, allDropped-append}
@@ -45,6 +45,12 @@ pub rest-again : {m : ℕ} {stream held : List ℕ} {given : List Answer} (input
     let said = given ++ answered (c .answer) in
     History m stream (c .held) left said × (allDropped said ++ (c .held ++ left) ≡ stream))
 rest-again input later h = let next = ask input later h in (next, faithful next .kept)
+
+-- a call that asks for more has given all answers only where it was on all that is unread (`all` of `Faithful`): after C8 02 00 01 and its first
+-- answer, a call on nothing asks for more, with three bytes unread and three answers to come
+pub asked-too-early : History 64 spoilt [] (2 ∷ 0 ∷ 1 ∷ []) (InvalidCrc spoilt ∷ []) × (call 64 [] [] .answer ≡ stop) × (length (reading 64 (2 ∷ 0 ∷ 1 ∷ []) .answers) ≡ 3)
+unfolding listed remainder remainderFrom afterByte shifts shiftBit candidate drops first goodLength passes reading readingPast takes droppedBy call answered
+asked-too-early = (ask [] (2 ∷ 0 ∷ 1 ∷ []) (ask spoilt [] (offer spoilt (begin []))), refl, refl)
 
 -- ---- No answer twice
 
