@@ -12,7 +12,7 @@ pub struct Span {
 }
 
 // The first count bytes of src go to dst, from place at on. The bytes beside stay.
-pub(crate) fn copy_in(dst: &mut [u8], at: usize, src: &[u8], count: usize)
+pub fn copy_in(dst: &mut [u8], at: usize, src: &[u8], count: usize)
     requires { ⌜ (at + count ≤ length (now dst)) × (count ≤ length (now src)) ⌝ }
     ensures { λ _. ⌜ now (dst .exit) ≡ paste (now (dst .entry)) at (now (src .entry)) count ⌝ }
 {
