@@ -52,7 +52,13 @@ fn make_room(places: &mut [u8], start: usize, end: usize, count: usize) -> Span
 }
 
 // The first count bytes of the input come behind the held ones.
-pub fn append(places: &mut [u8], start: usize, end: usize, input: &[u8], count: usize) -> Span
+pub(crate) fn append(
+    places: &mut [u8],
+    start: usize,
+    end: usize,
+    input: &[u8],
+    count: usize,
+) -> Span
     requires { ⌜ (start ≤ end) × ((end ≤ length (now places)) × ((end - start + count ≤ length (now places)) × (count ≤ length (now input)))) ⌝ }
     ensures { λ r. ⌜ Appended (now (places .entry)) start end (now (input .entry)) count (now (places .exit)) r ⌝ }
 {
