@@ -1,0 +1,4 @@
+pub mod Held
+pub mod Frames
+pub mod Histories
+pub mod Unique
