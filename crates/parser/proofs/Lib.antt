@@ -2,3 +2,6 @@ pub mod Held
 pub mod Frames
 pub mod Histories
 pub mod Unique
+pub mod Walk
+pub mod InPlace
+pub mod Structs
