@@ -1,7 +1,10 @@
 pub mod Held
 pub mod Frames
+pub mod Drains
 pub mod Histories
+pub mod Runs
 pub mod Unique
 pub mod Walk
 pub mod InPlace
 pub mod Structs
+pub mod LentUnique
