@@ -16,7 +16,7 @@ use contract.Monad.{Fun, fact}
 use denote.Ref.{now}
 use Rattle.base.proofs.Unique.{same}
 use Rattle.reading.specs.Answer as reading
-use Rattle.reading.specs.Call.{Call, call}
+use Rattle.reading.specs.Call.{call}
 use Rattle.reading.specs.History.{answered, History}
 use Rattle.stream.specs.declared.step.Answered.{Answered}
 use Rattle.parser.specs.declared.CrsfParser.{CrsfParser}

@@ -1,8 +1,6 @@
 pub mod Held
 pub mod Frames
-pub mod Drains
 pub mod Histories
-pub mod Runs
 pub mod Unique
 pub mod Walk
 pub mod InPlace

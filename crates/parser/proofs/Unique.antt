@@ -1,27 +1,18 @@
 -- Each public function's promise leaves one answer. Of a call it is what the call shows: what is said, how many bytes were taken, which are held;
 -- where the held bytes stand, and the bytes beside, is the exception that document 01 knows. Assumes nothing.
-use mathlib.Core.Path.{_≡_, ap}
+use mathlib.Core.Path.{_≡_}
 use mathlib.Core.List.{List}
 use Prim.Native.Nat.{ℕ}
 use denote.Ref.{now}
-use Rattle.base.proofs.Tests.{by-test}
 use Rattle.base.proofs.Unique.{OneAnswer, same}
-use Rattle.stream.specs.Step.{Outcome}
 use Rattle.stream.proofs.Unique.{one-outcome}
 use Rattle.parser.specs.declared.CrsfParser.{CrsfParser}
 use Rattle.parser.specs.declared.Stepped.{Stepped}
-use Rattle.parser.specs.declared.view.RawView.{RawView}
-use Rattle.parser.specs.declared.drain.Drained.{Drained}
-use Rattle.parser.specs.Parser.{isState, shownOf, Nexts}
-use Rattle.parser.specs.Drain.{Tally, tallyOf, Drains}
+use Rattle.parser.specs.Parser.{shownOf, Nexts}
 use Rattle.parser.proofs.new.Reads as new
 use Rattle.parser.proofs.reset.Reads as reset
 use Rattle.parser.proofs.held_len.Reads as held-len
 use Rattle.parser.proofs.next_raw_packet.Reads as next-raw-packet
-use Rattle.parser.proofs.drain.drain.Reads as drain
-use Rattle.parser.proofs.view.frame.Reads as frame
-use Rattle.parser.proofs.view.raw_view.Reads as raw-view
-use Rattle.parser.proofs.view.payload.Reads as payload
 
 pub new-one : OneAnswer {Seen = CrsfParser} new.Post (λ κs r s. r)
 new-one κs a r r′ s s′ = same
@@ -38,19 +29,3 @@ shown-once p input = one-outcome 64 (p .buffer) (p .start) (p .end) input
 pub next-raw-packet-one : (κs : _) (a : _) (r r′ : _) (s s′ : _) → next-raw-packet.Post κs a r s → next-raw-packet.Post κs a r′ s′
     → shownOf r (now (a .1 .0)) ≡ shownOf r′ (now (a .1 .0))
 next-raw-packet-one κs a r r′ s s′ = shown-once (a .0) (now (a .1 .0))
-
-pub frame-one : OneAnswer {Seen = List ℕ} frame.Post (λ κs r s. now r)
-frame-one κs a r r′ s s′ = same
-
-pub raw-view-one : OneAnswer {Seen = RawView} raw-view.Post (λ κs r s. r)
-raw-view-one κs a r r′ s s′ = same
-
-pub payload-one : OneAnswer {Seen = List ℕ} payload.Post (λ κs r s. now r)
-payload-one κs a r r′ s s′ = same
-
-tallied-once : (p : CrsfParser) (input : List ℕ) (budget : ℕ) (r r′ : Drained) → Drains p input budget r → Drains p input budget r′ → tallyOf r ≡ tallyOf r′
-tallied-once p input budget r r′ d d′ =
-    by-test (isState p) (λ good. same (d .tally good) (d′ .tally good)) (λ bad. ap tallyOf (same (d .refuses bad) (d′ .refuses bad)))
-
-pub drain-one : OneAnswer {Seen = Tally} drain.Post (λ κs r s. tallyOf r)
-drain-one κs a r r′ s s′ = tallied-once (a .0) (now (a .1 .0)) (a .1 .1 .0) r r′

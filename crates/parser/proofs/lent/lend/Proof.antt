@@ -1,7 +1,7 @@
 -- `parser::lent::lend` meets its contract: a walk of its MIR, by hand. The parser is copied into a local; the local is lent to `CrsfParser::next_raw_packet` for a lifetime that is made for the call, is back at the last value that the callee's contract says, and goes into the result with what the call says.
 -- All that the proof knows of the callee is that it meets its contract. The slice is Copy: one copy goes to the callee, and one is kept for the exit.
 -- Assumes nothing.
-use mathlib.Core.Path.{_≡_, refl}
+use mathlib.Core.Path.{refl}
 use Prim.Native.Nat.{ℕ}
 use mathlib.Core.List.{[], _∷_, List}
 use lib.ListN.{length}

@@ -1,9 +1,9 @@
--- `parser::view::raw_view` meets its contract. Assumes nothing.
+-- `view::raw_view` meets its contract. Assumes nothing.
 use borrow.Author.Tests.{lt-ltb, le-ltb}
-use Rattle.parser.specs.View.{rawOf}
+use Rattle.view.specs.View.{rawOf}
 use borrow.Author.Needs.{needs}
-use Rattle.parser.proofs.view.raw_view.Statement.{statement}
-use Rattle.parser.proofs.view.raw_view.Tie as tie
+use Rattle.view.proofs.raw_view.Statement.{statement}
+use Rattle.view.proofs.raw_view.Tie as tie
 
 returns : tie.Need-returns
 unfolding rawOf

@@ -1,8 +1,8 @@
--- `parser::view::frame` meets its contract. Assumes nothing.
-use Rattle.parser.specs.View.{frameOf}
+-- `view::frame` meets its contract. Assumes nothing.
+use Rattle.view.specs.View.{frameOf}
 use borrow.Author.Needs.{needs}
-use Rattle.parser.proofs.view.frame.Statement.{statement}
-use Rattle.parser.proofs.view.frame.Tie as tie
+use Rattle.view.proofs.frame.Statement.{statement}
+use Rattle.view.proofs.frame.Tie as tie
 
 enum-known-answer : tie.Need-enum-known-answer
 enum-known-answer c = search needs

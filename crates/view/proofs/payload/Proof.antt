@@ -1,13 +1,13 @@
--- `parser::view::payload` meets its contract. Assumes nothing.
+-- `view::payload` meets its contract. Assumes nothing.
 use mathlib.Core.Path.{_≡_}
 use Prim.Native.Nat.{_-_}
 use native.Mathlib.Omega.{arith}
 use borrow.Author.Tests.{lt-ltb, le-ltb}
 use lib.ListN.{length}
-use Rattle.parser.specs.View.{payloadOf}
+use Rattle.view.specs.View.{payloadOf}
 use borrow.Author.Needs.{needs}
-use Rattle.parser.proofs.view.payload.Statement.{statement}
-use Rattle.parser.proofs.view.payload.Tie as tie
+use Rattle.view.proofs.payload.Statement.{statement}
+use Rattle.view.proofs.payload.Tie as tie
 
 slice-aggregate-result : tie.Need-slice-aggregate-result
 slice-aggregate-result c = search needs

@@ -1,17 +1,11 @@
--- `parser::drain::drain_state` meets its contract. Assumes nothing.
+-- `drain::drain_state` meets its contract. Assumes nothing.
 use borrow.Author.Needs.{needs}
-use mathlib.Core.Path.{_≡_, sym, _∙_}
+use mathlib.Core.Path.{sym, _∙_}
 use Prim.Native.Nat.{_<_}
 use native.Mathlib.Omega.{arith}
-use Rattle.parser.proofs.Drains.{Going, begins, spent, fits, asked, goes, one-frame, one-refusal}
-use Rattle.parser.proofs.drain.drain_state.Statement.{statement}
-use Rattle.parser.proofs.drain.drain_state.Tie as tie
-use Rattle.parser.proofs.drain.drain_state.Reads as reads
-use Rattle.parser.proofs.drain.drain_state.Lts as lts
-use Rattle.parser.proofs.drain.asks.Reads as asks-reads
-use Rattle.parser.proofs.drain.frames_in.Reads as frames-in-reads
-use Rattle.parser.proofs.drain.refusals_in.Reads as refusals-in-reads
-use Rattle.parser.proofs.next_raw_packet.Reads as next-raw-packet-reads
+use Rattle.drain.proofs.Drains.{Going, begins, spent, fits, asked, goes, one-frame, one-refusal}
+use Rattle.drain.proofs.drain_state.Statement.{statement}
+use Rattle.drain.proofs.drain_state.Tie as tie
 
 abbrev Inv-loop : tie.InvT-loop
 Inv-loop input budget parser₀ taken₀ frames₀ refusals₀ left₀ parser taken frames refusals left =

@@ -1,7 +1,7 @@
--- `parser::drain::is_state` meets its contract. Assumes nothing.
+-- `drain::is_state` meets its contract. Assumes nothing.
 use borrow.Author.Tests.{le-leb, lt-leb}
-use Rattle.parser.proofs.drain.is_state.Statement.{statement}
-use Rattle.parser.proofs.drain.is_state.Tie as tie
+use Rattle.drain.proofs.is_state.Statement.{statement}
+use Rattle.drain.proofs.is_state.Tie as tie
 
 returns : tie.Need-returns
 returns c = simp (le-leb _ _ (c .before .if1 .taken))

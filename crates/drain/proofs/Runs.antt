@@ -1,11 +1,11 @@
 -- The bridge in code: a drain is a run of calls, so it is a part of a history; and with a budget that is enough, it is the reading.
 -- Assumes nothing.
-use mathlib.Core.Path.{_≡_, refl, sym, ap, ap₂, _∙_, subst}
+use mathlib.Core.Path.{_≡_, refl, sym, ap, _∙_, subst}
 use mathlib.Core.Bool.{true}
 use mathlib.Core.List.{List, [], _∷_, _++_, append-assoc, append-nil}
 use Prim.Native.Nat.{ℕ, zero, suc, _+_, _-_, _≤_, _<_}
 use native.Mathlib.Omega.{arith}
-use lib.ListN.{length, drop, length-append, length-drop, drop-of-length-le}
+use lib.ListN.{length, drop, length-drop, drop-of-length-le}
 use lib.Seq.{drop-drop}
 use Rattle.reading.specs.Answer.{Answer, drops}
 use Rattle.reading.specs.Reading.{First, stop, says, first, Reading, reading}
@@ -16,13 +16,13 @@ use Rattle.reading.proofs.First.{stands}
 use Rattle.reading.proofs.Reading.{at-stop, at-says}
 use Rattle.reading.proofs.Call.{answers-first, rest, asks-for-more}
 use Rattle.reading.proofs.History.{faithful}
 use Rattle.parser.specs.declared.CrsfParser.{CrsfParser}
-use Rattle.parser.specs.declared.drain.Drained.{Drained}
-use Rattle.parser.specs.declared.drain.End.{End}
-use Rattle.parser.specs.declared.drain.End.the-variants.{AsksForMore, BudgetSpent}
+use Rattle.drain.specs.declared.Drained.{Drained}
+use Rattle.drain.specs.declared.End.the-variants.{AsksForMore, BudgetSpent}
 use Rattle.parser.specs.Parser.{heldBy, isState}
-use Rattle.parser.specs.Drain.{framesOf, refusalsOf, Tally, more, drainOf, tallied, tallyOf, Drains}
-use Rattle.parser.proofs.Drains.{tally-eq, none-left, drain-stop, drain-says, there}
+use Rattle.drain.specs.Drain.{framesOf, refusalsOf, Tally, more, drainOf, tallied, tallyOf, Drains}
+use Rattle.drain.proofs.Drains.{tally-eq, none-left, drain-stop, drain-says}
+use Rattle.parser.proofs.Held.{call-takes}
 
 -- what a call drops, by its answer
 dropped-by : (a : Answer) {f : First} → f ≡ says a → droppedBy f ≡ drops a
@@ -48,7 +48,7 @@ module _ (m : ℕ) (held input : List ℕ) (n : ℕ) (enough : length (held ++ i
       rest m held input ∙ ap (λ (k : ℕ). drop k (held ++ input)) (dropped-by a e) in
       let fewer = stands m (held ++ input) a says-it in
       let small : length (c .held ++ drop (c .taken) input) < n = omega (arith, ap length left, length-drop (drops a) (held ++ input)) in
-      let whole : c .taken + length (drop (c .taken) input) ≡ length input = omega (arith, there m held input, length-drop (c .taken) input) in
+      let whole : c .taken + length (drop (c .taken) input) ≡ length input = omega (arith, call-takes m held input, length-drop (c .taken) input) in
       drain-says m held input n a e
       ∙ ap (more (c .taken) (framesOf a) (refusalsOf a)) (again (c .held) (drop (c .taken) input) small)
       ∙ ap (λ (s : List ℕ). more (c .taken) (framesOf a) (refusalsOf a) (tallied (reading m s) (length (drop (c .taken) input)))) left
@@ -117,7 +117,7 @@ module _ (m : ℕ) {stream : List ℕ} (later : List ℕ) where
             (subst (History m stream (t .held) (drop (t .taken) (drop (c .taken) input) ++ later)) (append-assoc given (a ∷ []) (f .answers)) (f .history));
         frames = ap (λ (k : ℕ). framesOf a + k) (f .frames);
         refusals = ap (λ (k : ℕ). refusalsOf a + k) (f .refusals);
-        asks = λ q. (omega (arith, f .asks q .0, there m held input, length-drop (c .taken) input), f .asks q .1);
+        asks = λ q. (omega (arith, f .asks q .0, call-takes m held input, length-drop (c .taken) input), f .asks q .1);
       })
 
   went-on : {given : List Answer} (held input : List ℕ) (a : Answer) → call m held input .answer ≡ says a → History m stream held (input ++ later) given

@@ -2,7 +2,7 @@
 use stream::step::Answer;
 ghost use mathlib.Core.Path.{_≡_};
 ghost use Rattle.base.specs.Parts.{part};
-ghost use Rattle.parser.specs.View.{frameOf, rawOf, payloadOf};
+ghost use Rattle.view.specs.View.{frameOf, rawOf, payloadOf};
 
 // The len bytes of s from place at on, as far as they are there.
 fn part_of(s: &[u8], at: usize, len: usize) -> &[u8]

@@ -1,11 +1,10 @@
--- `parser::drain::drain` meets its contract. Assumes nothing.
-use mathlib.Core.Path.{_≡_, refl, sym, _∙_}
-use mathlib.Core.Bool.{true≢false}
+-- `drain::drain` meets its contract. Assumes nothing.
+use mathlib.Core.Path.{sym, _∙_}
 use borrow.Author.Tests.{not-true, not-false}
 use borrow.Author.Needs.{needs}
-use Rattle.parser.proofs.Drains.{not-drained}
-use Rattle.parser.proofs.drain.drain.Statement.{statement}
-use Rattle.parser.proofs.drain.drain.Tie as tie
+use Rattle.drain.proofs.Drains.{not-drained}
+use Rattle.drain.proofs.drain.Statement.{statement}
+use Rattle.drain.proofs.drain.Tie as tie
 
 is-state-requires : tie.Need-is-state-requires
 is-state-requires c κs = search needs

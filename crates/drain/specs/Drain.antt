@@ -3,19 +3,19 @@
 use Prim.Native.Nat.{ℕ, zero, suc, _+_}
 use mathlib.Core.Path.{_≡_}
 use mathlib.Core.Bool.{Bool, true, false}
-use mathlib.Core.List.{List, _++_}
-use lib.ListN.{length, drop}
+use mathlib.Core.List.{List}
+use lib.ListN.{drop}
 use Rattle.reading.specs.Answer as reading
-use Rattle.reading.specs.Reading.{First, stop, says, Reading, reading}
-use Rattle.reading.specs.Call.{Call, call}
+use Rattle.reading.specs.Reading.{stop, says, Reading, reading}
+use Rattle.reading.specs.Call.{call}
 use Rattle.reading.specs.Counts.{total}
 use Rattle.stream.specs.declared.step.Answer.{Answer}
 use Rattle.stream.specs.declared.step.Answer.the-variants.{Stop, InPiece, InHeld, InvalidSync, InvalidPacketLength, InvalidCrc, BadState}
 use Rattle.parser.specs.declared.CrsfParser.{CrsfParser}
-use Rattle.parser.specs.declared.drain.End.{End}
-use Rattle.parser.specs.declared.drain.End.the-variants.{AsksForMore, BudgetSpent, BadState as NoState}
-use Rattle.parser.specs.declared.drain.Drained.{Drained}
+use Rattle.drain.specs.declared.End.{End}
+use Rattle.drain.specs.declared.End.the-variants.{AsksForMore, BudgetSpent, BadState as NoState}
+use Rattle.drain.specs.declared.Drained.{Drained}
 use Rattle.parser.specs.Parser.{heldBy, isState}
 
 -- ---- What is counted: by the reading, and by the code
 unfoldable pub framesOf : reading.Answer → ℕ

@@ -1,34 +1,28 @@
 -- Laws of a drain: one turn of its loop; with a budget that is enough it is the reading; and it is a run of a history. Assumes nothing.
 use mathlib.Core.Path.{_≡_, refl, sym, ap, _∙_, subst}
 use mathlib.Core.Bool.{Bool, true, false, true≢false}
-use mathlib.Core.List.{List, [], _∷_, _++_, append-assoc, append-nil}
-use Prim.Native.Nat.{ℕ, zero, suc, _+_, _-_, _≤_, _<_}
-use native.Mathlib.Nat.{add-zero, zero-add, add-assoc}
+use mathlib.Core.List.{List}
+use Prim.Native.Nat.{ℕ, suc, _+_, _-_, _≤_, _<_}
+use native.Mathlib.Nat.{add-zero}
 use native.Mathlib.Omega.{arith}
 use lib.Dec.{ltb}
-use lib.ListN.{length, take, drop, length-append, length-drop}
-use lib.Seq.{take-all, drop-drop, drop-length}
+use lib.ListN.{length, take, drop, length-drop}
+use lib.Seq.{take-all, drop-drop}
 use Rattle.reading.specs.Answer as reading
-use Rattle.reading.specs.Answer.{drops}
-use Rattle.reading.specs.Reading.{First, stop, says, first, Reading, reading}
-use Rattle.reading.specs.Call.{Call, call, takes, droppedBy}
-use Rattle.reading.specs.Counts.{total}
-use Rattle.reading.specs.History.{answered, History, ask}
-use Rattle.reading.proofs.First.{stands}
-use Rattle.reading.proofs.Reading.{at-stop, at-says}
-use Rattle.reading.proofs.Call.{Sizes, sizes, answers-first, rest, holds-all, asks-for-more}
-use Rattle.reading.proofs.Counts.{total-append}
+use Rattle.reading.specs.Reading.{First, stop, says, reading}
+use Rattle.reading.specs.Call.{Call, call}
+use Rattle.reading.specs.History.{answered}
 use Rattle.stream.specs.Step.{Said, frame, refused, more as moreSaid, saidOf, meaningOf, Outcome}
 use Rattle.stream.specs.declared.step.Answer.{Answer}
 use Rattle.stream.specs.declared.step.Answer.the-variants.{Stop, InPiece, InHeld, InvalidSync, InvalidPacketLength, InvalidCrc, BadState}
 use Rattle.parser.specs.declared.CrsfParser.{CrsfParser}
 use Rattle.parser.specs.declared.Stepped.{Stepped}
-use Rattle.parser.specs.declared.drain.Drained.{Drained}
-use Rattle.parser.specs.declared.drain.End.{End}
-use Rattle.parser.specs.declared.drain.End.the-variants.{AsksForMore, BudgetSpent, BadState as NoState}
+use Rattle.drain.specs.declared.Drained.{Drained}
+use Rattle.drain.specs.declared.End.{End}
+use Rattle.drain.specs.declared.End.the-variants.{AsksForMore, BudgetSpent, BadState as NoState}
 use Rattle.parser.specs.Parser.{heldBy, isState, Nexts}
-use Rattle.parser.specs.Drain.{framesOf, refusalsOf, asksIn, framesIn, refusalsIn, Tally, more, drainOf, tallied, tallyOf, Drains}
-use Rattle.parser.proofs.Held.{moves-on, still-state}
+use Rattle.drain.specs.Drain.{framesOf, refusalsOf, asksIn, framesIn, refusalsIn, Tally, more, drainOf, tallyOf, Drains}
+use Rattle.parser.proofs.Held.{call-takes, moves-on, still-state}
 
 -- ---- What an answer of the code counts is what the reading's counts
 
@@ -139,10 +133,6 @@ module _ (m : ℕ) (held input : List ℕ) where
   unfolding drainOf
   drain-says n a e = rw (e, drainOf)
 
-  pub there : call m held input .taken ≤ length input
-  unfolding call
-  there = sizes m held input .there
-
 -- ---- The loop
 
 -- what holds at the head of each turn: what was done, with what the drain of the rest will do, is the drain of the whole
@@ -215,7 +205,7 @@ module _ {p : CrsfParser} {input : List ℕ} {budget : ℕ} {parser : CrsfParser
         ap (λ (k : ℕ). more taken frames refusals (drainOf 64 k (heldBy parser) (drop taken input))) suc-left ∙ g .so-far
 
     pub fits : taken + out .answered .taken ≤ length input
-    fits = omega (arith, takes-it, there 64 (heldBy parser) (drop taken input), length-drop taken input, g .inside)
+    fits = omega (arith, takes-it, call-takes 64 (heldBy parser) (drop taken input), length-drop taken input, g .inside)
 
     pub asked : asksIn a ≡ true
         → Drains p input budget (record { parser = out .parser; taken = taken + out .answered .taken; frames = frames; refusals = refusals; end = AsksForMore })

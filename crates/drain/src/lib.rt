@@ -1,11 +1,11 @@
 // A drain of a whole piece: calls until the parser asks for more, or as many as the caller allows.
-use crate::CrsfParser;
-use crate::next_raw_packet;
+use parser::CrsfParser;
+use parser::next_raw_packet;
 use stream::step::Answer;
 ghost use mathlib.Core.Path.{_≡_};
 ghost use mathlib.Core.Bool.{true};
 ghost use Rattle.parser.specs.Parser.{isState};
-ghost use Rattle.parser.specs.Drain.{asksIn, framesIn, refusalsIn, Drains};
+ghost use Rattle.drain.specs.Drain.{asksIn, framesIn, refusalsIn, Drains};
 
 // Why a drain came to its end.
 pub enum End {

@@ -9,8 +9,8 @@ use Rattle.base.specs.Choice.{if_then_else_}
 use Rattle.base.specs.Parts.{part}
 use Rattle.stream.specs.declared.step.Answer.{Answer}
 use Rattle.stream.specs.declared.step.Answer.the-variants.{Stop, InPiece, InHeld, InvalidSync, InvalidPacketLength, InvalidCrc, BadState}
-use Rattle.parser.specs.declared.view.RawView.{RawView}
-use Rattle.parser.specs.declared.view.RawView.the-variants.{View, InvalidPayloadLength}
+use Rattle.view.specs.declared.RawView.{RawView}
+use Rattle.view.specs.declared.RawView.the-variants.{View, InvalidPayloadLength}
 
 -- document 01, "The frame is a part of the caller's piece or of the held bytes": the bytes that an answer points at
 unfoldable pub frameOf : Answer → List ℕ → List ℕ → List ℕ
