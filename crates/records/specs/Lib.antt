@@ -4,3 +4,4 @@ pub mod GpsExtended
 pub mod LinkStatistics
 pub mod BaroAltitude
 pub mod Battery
+pub mod Edges
