@@ -5,3 +5,4 @@ pub mod Edges
 pub mod Told
 pub mod Laws
 pub mod BatteryLaws
+pub mod Unique
