@@ -1,6 +1,6 @@
 -- `channels::RcChannelsPacked::from_bytes` meets its contract. The invariant: the first i channels are written, and the others are still 0.
 -- Assumes nothing.
-use mathlib.Core.Path.{_≡_, refl, sym, ap, _∙_}
+use mathlib.Core.Path.{_≡_, sym, ap, _∙_}
 use mathlib.Core.List.{List, _++_, append-nil}
 use Prim.Native.Nat.{ℕ, _-_, _≤_}
 use native.Mathlib.Omega.{arith}
