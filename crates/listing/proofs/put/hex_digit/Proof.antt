@@ -1,0 +1,26 @@
+-- `listing::put::hex_digit` meets its contract. Assumes nothing.
+use borrow.Author.Tests.{lt-ltb, le-ltb}
+use Rattle.listing.specs.Digits.{hexDigit}
+use borrow.Author.Needs.{needs}
+use Rattle.listing.proofs.put.hex_digit.Statement.{statement}
+use Rattle.listing.proofs.put.hex_digit.Tie as tie
+
+add-result : tie.Need-add-result
+add-result c = search needs
+
+returns : tie.Need-returns
+unfolding hexDigit
+returns c = simp (lt-ltb _ 10 (c .if1 .taken))
+
+sub-result : tie.Need-sub-result
+sub-result c = search needs
+
+add-result-2 : tie.Need-add-result-2
+add-result-2 c = search needs
+
+returns-2 : tie.Need-returns-2
+unfolding hexDigit
+returns-2 c = simp (le-ltb _ 10 (c .if1 .left))
+
+pub hex-digit-spec : {M : Type 1} → statement M
+hex-digit-spec = tie.close (tie.spec add-result returns sub-result add-result-2 returns-2)
