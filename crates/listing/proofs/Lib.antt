@@ -5,3 +5,6 @@ pub mod Digits
 pub mod Said
 pub mod Listings
 pub mod Drained
+pub mod Laws
+pub mod Examples
+pub mod Unique

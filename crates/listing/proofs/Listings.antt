@@ -44,7 +44,7 @@ module _ (m : ℕ) (held input : List ℕ) where
     abbrev left : List ℕ
     left = call m held input .held ++ drop (call m held input .taken) input
 
-    left-is : left ≡ drop (drops a) (held ++ input)
+    pub left-is : left ≡ drop (drops a) (held ++ input)
     unfolding droppedBy
     left-is = rest m held input ∙ ap (λ f. drop (droppedBy f) (held ++ input)) e
 

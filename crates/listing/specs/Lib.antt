@@ -4,3 +4,4 @@ pub mod Put
 pub mod Listing
 pub mod Drain
 pub mod Shown
+pub mod Examples

@@ -35,7 +35,7 @@ pub struct Listed {
 }
 
 // The same after one call of the stream, with the place behind its line.
-pub struct Turn {
+struct Turn {
     start: usize,
     end: usize,
     taken: usize,

@@ -81,7 +81,13 @@ fn put_frame_at(s: &[u8], p: usize, out: &mut [u8], at: usize) -> usize
 }
 
 // The line of what a call says, if any.
-pub fn put_line(answer: Answer, piece: &[u8], places: &[u8], out: &mut [u8], at: usize) -> usize
+pub(crate) fn put_line(
+    answer: Answer,
+    piece: &[u8],
+    places: &[u8],
+    out: &mut [u8],
+    at: usize,
+) -> usize
     requires { ⌜ at + longest ≤ length (now out) ⌝ }
     ensures { λ r. ⌜ (Puts (now (out .entry)) at (lineBy answer (now (piece .entry)) (now (places .entry))) (now (out .exit)) r) × (r ≤ at + longest) ⌝ }
 {

@@ -8,7 +8,7 @@ ghost use Rattle.listing.specs.Digits.{hexDigit, decimal};
 ghost use Rattle.listing.specs.Lines.{spacedHex, spacedDecimal};
 ghost use Rattle.listing.specs.Put.{Puts};
 
-pub fn put_word(out: &mut [u8], at: usize, word: &[u8]) -> usize
+pub(crate) fn put_word(out: &mut [u8], at: usize, word: &[u8]) -> usize
     requires { ⌜ at + length (now word) ≤ length (now out) ⌝ }
     ensures { λ r. ⌜ Puts (now (out .entry)) at (now (word .entry)) (now (out .exit)) r ⌝ }
 {
@@ -27,7 +27,7 @@ fn hex_digit(d: u8) -> u8
 }
 
 // A space and two digits.
-pub fn put_hex(out: &mut [u8], at: usize, b: u8) -> usize
+pub(crate) fn put_hex(out: &mut [u8], at: usize, b: u8) -> usize
     requires { ⌜ at + 3 ≤ length (now out) ⌝ }
     ensures { λ r. ⌜ Puts (now (out .entry)) at (spacedHex b) (now (out .exit)) r ⌝ }
 {
@@ -45,7 +45,7 @@ fn digit(d: u8) -> u8
 }
 
 // How many decimal digits n has.
-pub fn digits(n: u8) -> usize
+pub(crate) fn digits(n: u8) -> usize
     ensures { λ r. ⌜ (r ≡ length (decimal n)) × (r ≤ 3) ⌝ }
 {
     if n < 10 {
@@ -58,7 +58,7 @@ pub fn digits(n: u8) -> usize
 }
 
 // A space and a number.
-pub fn put_decimal(out: &mut [u8], at: usize, n: u8) -> usize
+pub(crate) fn put_decimal(out: &mut [u8], at: usize, n: u8) -> usize
     requires { ⌜ at + length (spacedDecimal n) ≤ length (now out) ⌝ }
     ensures { λ r. ⌜ (Puts (now (out .entry)) at (spacedDecimal n) (now (out .exit)) r) × (r ≤ at + 4) ⌝ }
 {
