@@ -4,12 +4,14 @@ use mathlib.Core.Path.{_≡_, refl, ap, _∙_}
 use mathlib.Core.List.{List, [], _∷_, _++_}
 use Prim.Native.Nat.{ℕ, zero, suc, _+_, _/_, _%_, _≤_, _<_}
 use native.Mathlib.Omega.{arith}
-use borrow.Author.Tests.{lt-ltb, le-ltb}
+use borrow.Author.Tests.{lt-ltb, le-ltb, ltb-false}
+use lib.Dec.{ltb}
 use lib.ListN.{length, length-append}
 use mathlib.Core.Logic.{⊎-elim}
-use Rattle.base.proofs.Tests.{below}
+use Rattle.base.proofs.Tests.{below, by-test}
 use Rattle.listing.specs.Digits.{decimalWithin, decimal}
 use Rattle.listing.specs.Lines.{heldWord, spacedDecimal, lineEnd, heldLine}
+use Rattle.listing.specs.Shown.{heldLineOf}
 
 one-within : (most n : ℕ) → 1 ≤ most → n < 10 → decimalWithin most n ≡ (48 + n) ∷ []
 unfolding decimalWithin
@@ -46,3 +48,11 @@ three-at-most n small =
 pub length-held-line : (n : ℕ) → length (heldLine n) ≡ 6 + length (decimal n)
 unfolding heldLine
 length-held-line n = omega (arith, length-append (heldWord ++ spacedDecimal n) lineEnd)
+
+-- the last line is no longer than the buffer
+pub held-fits : (n : ℕ) (out : List ℕ) {r : ℕ} {outAfter : List ℕ} → (r, outAfter) ≡ heldLineOf n out → r ≤ length out
+unfolding heldLineOf
+held-fits n out e =
+    by-test (ltb (length out) (length (heldLine n)))
+    (λ t. let q = ap (λ (x : ℕ × List ℕ). x .0) (simp t at e) in omega arith)
+    (λ t. let q = ap (λ (x : ℕ × List ℕ). x .0) (simp t at e) in omega (arith, ltb-false (length out) (length (heldLine n)) t))

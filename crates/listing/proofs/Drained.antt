@@ -10,6 +10,7 @@ use borrow.Author.Tests.{le-leb}
 use lib.ListN.{length, take, drop, length-append, length-drop}
 use lib.Seq.{drop-drop, take-all}
 use Rattle.base.specs.Parts.{pasted}
+use Rattle.base.proofs.Tests.{by-test}
 use Rattle.reading.specs.Answer.{Answer}
 use Rattle.reading.specs.Reading.{First, stop, says}
 use Rattle.reading.specs.Call.{Call, call}
@@ -66,8 +67,9 @@ going-begin places start end input out good =
           ∙ same-listing (length places) [] refl refl refl (sym (sub-zero (length out)));
     }
 
-drains-as : {m : ℕ} {l l′ : Listing} {out places outAfter : List ℕ} {r : Listed} → l ≡ l′ → Drains m l′ out places outAfter r → Drains m l out places outAfter r
-drains-as {m} {out = out} {places} {outAfter} {r} e d = subst (λ (x : Listing). Drains m x out places outAfter r) (sym e) d
+drains-as : {m : ℕ} {l l′ : Listing} {input out places outAfter : List ℕ} {r : Listed} → l ≡ l′ → Drains m l′ input out places outAfter r
+    → Drains m l input out places outAfter r
+drains-as {m} {input = input} {out} {places} {outAfter} {r} e d = subst (λ (x : Listing). Drains m x input out places outAfter r) (sym e) d
 
 module _ {m : ℕ} {wanted : Listing} {out₀ input places : List ℕ} {from to taken at : ℕ} {out : List ℕ}
     (g : Going m wanted out₀ input places from to taken at out) where
@@ -90,7 +92,7 @@ module _ {m : ℕ} {wanted : Listing} {out₀ input places : List ℕ} {from to 
 
   -- no room for the longest line
   pub going-full : length out - at < longest
-      → Drains m wanted out₀ places out (record { start = from; end = to; taken = taken; written = at; status = Full })
+      → Drains m wanted input out₀ places out (record { start = from; end = to; taken = taken; written = at; status = Full })
   going-full short =
       drains-as
       (g .rest ∙ ap (after (g .lines) taken) (at-full m held unread (length out₀ - at) (omega (arith, g .out-size))))
@@ -100,6 +102,8 @@ module _ {m : ℕ} {wanted : Listing} {out₀ input places : List ℕ} {from to 
         held-is = refl;
         taken-is = sym (add-zero taken);
         status-is = refl;
+        taken-in = g .taken-in;
+        written-in = g .room;
         written-is = at-is ∙ ap length (sym (append-nil (g .lines)));
         buffer = g .puts .written ∙ ap (pasted out₀ 0) (sym (append-nil (g .lines)));
       })
@@ -185,7 +189,7 @@ module _ {m : ℕ} {wanted : Listing} {out₀ input places : List ℕ} {from to 
 
     -- more input is asked for: all answers are given
     asks-more : answer ≡ stop
-        → Drains m wanted out₀ places′ out′ (record { start = r .start; end = r .end; taken = taken + r .taken; written = r .at; status = More })
+        → Drains m wanted input out₀ places′ out′ (record { start = r .start; end = r .end; taken = taken + r .taken; written = r .at; status = More })
     unfolding lineFirst
     asks-more e =
         let c = asks-for-more m held unread (answers-first m held unread ∙ e) in
@@ -199,18 +203,20 @@ module _ {m : ℕ} {wanted : Listing} {out₀ input places : List ℕ} {from to 
           held-is = t .held-is ∙ ap (λ (x : Call). x .held) c;
           taken-is = ap (λ (n : ℕ). taken + n) (t .taken-is ∙ ap (λ (x : Call). x .taken) c);
           status-is = refl;
+          taken-in = taken′;
+          written-in = room′;
           written-is = puts-all .next ∙ zero-add (length (g .lines ++ lineFirst answer)) ∙ ap length lines;
           buffer = puts-all .written ∙ ap (pasted out₀ 0) lines;
         })
 
     more-by : (f : First) → answer ≡ f → asksFor f ≡ true
-        → Drains m wanted out₀ places′ out′ (record { start = r .start; end = r .end; taken = taken + r .taken; written = r .at; status = More })
+        → Drains m wanted input out₀ places′ out′ (record { start = r .start; end = r .end; taken = taken + r .taken; written = r .at; status = More })
     unfolding asksFor
     more-by stop e q = asks-more e
     more-by (says a) e q = absurd (true≢false (sym q))
 
     pub going-more : r .asks ≡ true
-        → Drains m wanted out₀ places′ out′ (record { start = r .start; end = r .end; taken = taken + r .taken; written = r .at; status = More })
+        → Drains m wanted input out₀ places′ out′ (record { start = r .start; end = r .end; taken = taken + r .taken; written = r .at; status = More })
     going-more q = more-by answer refl (sym (t .asks-is) ∙ q)
 
 -- a state that is none, and one that is
@@ -220,5 +226,13 @@ module _ {m : ℕ} {before : List ℕ} {start end : ℕ} {input out : List ℕ} 
   refused-list bad = record { refuses = λ _. (refl, (refl, refl)); drains = λ good. absurd (true≢false (sym good ∙ bad)) }
 
   pub drained-list : {places outAfter : List ℕ} {r : Listed} → isSpan m start end ≡ true
-      → Drains m (listOf m (heldIn before start end) input (length out)) out places outAfter r → Lists m before start end input out places outAfter r
+      → Drains m (listOf m (heldIn before start end) input (length out)) input out places outAfter r → Lists m before start end input out places outAfter r
   drained-list good d = record { refuses = λ bad. absurd (true≢false (sym good ∙ bad)); drains = λ _. d }
+
+  -- whether it is one or not, no more is taken and written than there is
+  pub list-fits : {places outAfter : List ℕ} {r : Listed} → Lists m before start end input out places outAfter r → start ≤ end → end ≤ m
+      → (r .taken ≤ length input) × ((r .written ≤ length out) × ((r .start ≤ r .end) × (r .end ≤ m)))
+  list-fits {r = r} lists low high =
+      by-test (isSpan m start end)
+      (λ good. let d = lists .drains good in (d .taken-in, (d .written-in, (d .ordered, d .inside))))
+      (λ bad. let e = lists .refuses bad .0 in rw e (omega arith, (omega arith, (low, high))))

@@ -172,7 +172,7 @@ so-far {m} {held = held} {unread} t more =
 
 -- ---- the code: what it wrote is what the promise says, so each call of it carries a text on
 
-module _ {m : ℕ} {l : Listing} {out places outAfter : List ℕ} {r : Listed} (d : Drains m l out places outAfter r) where
+module _ {m : ℕ} {l : Listing} {input₀ out places outAfter : List ℕ} {r : Listed} (d : Drains m l input₀ out places outAfter r) where
   pub wrote : take (r .written) outAfter ≡ l .lines
   wrote =
       ap₂ take (d .written-is) (d .buffer ∙ pasted-front out (l .lines)) ∙ take-at (l .lines) (drop (length (l .lines)) out) (length (l .lines)) refl

@@ -28,7 +28,7 @@ pub record Shows : Type 0 where
 abbrev pub shows : Listed → List ℕ → List ℕ → Shows
 shows r places out = record { held = heldIn places (r .start) (r .end); taken = r .taken; written = r .written; status = r .status; buffer = out }
 
-by-promise : {m : ℕ} {l : Listing} {out places outAfter : List ℕ} {r : Listed} → Drains m l out places outAfter r
+by-promise : {m : ℕ} {l : Listing} {input out places outAfter : List ℕ} {r : Listed} → Drains m l input out places outAfter r
     → shows r places outAfter
     ≡ record { held = l .held; taken = l .taken; written = length (l .lines); status = statusOf (l .asks); buffer = pasted out 0 (l .lines) }
 by-promise d =

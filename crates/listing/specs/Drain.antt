@@ -56,17 +56,19 @@ abbrev pub statusOf : Bool → Status
 statusOf true = status.More
 statusOf false = status.Full
 
-pub record Drains (m : ℕ) (l : Listing) (out places outAfter : List ℕ) (r : Listed) : Type 0 where
+pub record Drains (m : ℕ) (l : Listing) (input out places outAfter : List ℕ) (r : Listed) : Type 0 where
   pub ordered : r .start ≤ r .end
   pub inside : r .end ≤ m
   pub held-is : heldIn places (r .start) (r .end) ≡ l .held
   pub taken-is : r .taken ≡ l .taken
   pub status-is : r .status ≡ statusOf (l .asks)
   pub written-is : r .written ≡ length (l .lines)
+  pub taken-in : r .taken ≤ length input
+  pub written-in : r .written ≤ length out
   pub buffer : outAfter ≡ pasted out 0 (l .lines)
 
 -- a state that is none is refused: 8, and nothing is changed
 pub record Lists (m : ℕ) (before : List ℕ) (start end : ℕ) (input out places outAfter : List ℕ) (r : Listed) : Type 0 where
   pub refuses : isSpan m start end ≡ false
       → (r ≡ record { start = start; end = end; taken = 0; written = 0; status = status.BadState }) × ((places ≡ before) × (outAfter ≡ out))
-  pub drains : isSpan m start end ≡ true → Drains m (listOf m (heldIn before start end) input (length out)) out places outAfter r
+  pub drains : isSpan m start end ≡ true → Drains m (listOf m (heldIn before start end) input (length out)) input out places outAfter r

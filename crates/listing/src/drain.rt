@@ -84,7 +84,7 @@ fn list_one(
 
 fn drain(places: &mut [u8], start: usize, end: usize, input: &[u8], out: &mut [u8]) -> Listed
     requires { ⌜ isSpan (length (now places)) start end ≡ true ⌝ }
-    ensures { λ r. ⌜ Drains (length (now (places .entry))) (listOf (length (now (places .entry))) (heldIn (now (places .entry)) start end) (now (input .entry)) (length (now (out .entry)))) (now (out .entry)) (now (places .exit)) (now (out .exit)) r ⌝ }
+    ensures { λ r. ⌜ Drains (length (now (places .entry))) (listOf (length (now (places .entry))) (heldIn (now (places .entry)) start end) (now (input .entry)) (length (now (out .entry)))) (now (input .entry)) (now (out .entry)) (now (places .exit)) (now (out .exit)) r ⌝ }
 {
     let mut from = start;
     let mut to = end;
