@@ -19,14 +19,15 @@ use Rattle.stream.specs.Places.{heldIn}
 use Rattle.stream.specs.Step.{isSpan}
 use Rattle.stream.proofs.Held.{length-held}
 use Rattle.stream.proofs.Spans.{span-bounds}
-use Rattle.listing.specs.Lines.{line}
-use Rattle.listing.specs.Put.{Puts}
-use Rattle.listing.specs.Listing.{longest, Listing, after, full, asking, listOf}
+use Rattle.lines.specs.Lines.{line}
+use Rattle.lines.specs.Put.{Puts}
+use Rattle.listing.specs.Listing.{Listing, after, full, asking, listOf}
+use Rattle.lines.specs.Lines.{longest}
 use Rattle.listing.specs.Drain.{asksFor, lineFirst, Turns, Drains, Lists}
 use Rattle.listing.specs.declared.drain.Turn.{Turn}
 use Rattle.listing.specs.declared.drain.Listed.{Listed}
 use Rattle.listing.specs.declared.drain.Status.the-variants.{More, Full, BadState}
-use Rattle.listing.proofs.Puts.{puts-none, puts-then, puts-as, length-puts}
+use Rattle.lines.proofs.Puts.{puts-none, puts-then, puts-as, length-puts}
 use Rattle.listing.proofs.Listings.{after-after, at-full, at-stop, at-says, fewer, taken-fits}
 
 -- some lines are written and some input is taken, and the rest of what is wanted is the listing from here on

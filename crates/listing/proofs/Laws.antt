@@ -19,8 +19,9 @@ use Rattle.reading.proofs.Reading as read
 use Rattle.reading.proofs.Call.{answers-first, asks-for-more, holds-all}
 use Rattle.reading.proofs.History.{faithful}
 use Rattle.stream.specs.Places.{heldIn}
-use Rattle.listing.specs.Lines.{line, linesOf, heldLine}
-use Rattle.listing.specs.Listing.{longest, Listing, after, full, asking, listFrom, listOf}
+use Rattle.lines.specs.Lines.{line, linesOf, heldLine}
+use Rattle.listing.specs.Listing.{Listing, after, full, asking, listFrom, listOf}
+use Rattle.lines.specs.Lines.{longest}
 use Rattle.listing.specs.Drain.{Drains}
 use Rattle.listing.specs.Shown.{listed}
 use Rattle.listing.specs.declared.drain.Listed.{Listed}

@@ -1,7 +1,5 @@
--- `Puts`: runs of bytes, one behind another. `Digits`: a number's decimal digits. `Said`: the line of what a call says. `Listings`: the listing, call by
--- call. `Drained`: the loop over the calls. `Laws`: however the input is cut, the lines are those of the reading's answers.
-pub mod Puts
-pub mod Digits
+-- `Said`: the line of what a call says. `Listings`: the listing, call by call. `Drained`: the loop over the calls. `Laws`: however the input is cut, the
+-- lines are those of the reading's answers.
 pub mod Said
 pub mod Listings
 pub mod Drained

@@ -14,8 +14,9 @@ use Rattle.reading.specs.Call.{droppedBy, call}
 use Rattle.reading.proofs.First.{stands}
 use Rattle.reading.proofs.Reading as read
 use Rattle.reading.proofs.Call.{sizes, answers-first, rest}
-use Rattle.listing.specs.Lines.{line}
-use Rattle.listing.specs.Listing.{longest, Listing, after, full, asking, listFrom, listOf}
+use Rattle.lines.specs.Lines.{line}
+use Rattle.listing.specs.Listing.{Listing, after, full, asking, listFrom, listOf}
+use Rattle.lines.specs.Lines.{longest}
 
 -- two runs of lines are one
 pub after-after : (l k : List ℕ) (n j : ℕ) (more : Listing) → after l n (after k j more) ≡ after (l ++ k) (n + j) more

@@ -22,19 +22,19 @@ use Rattle.stream.specs.declared.step.Answer.the-variants.{Stop, InPiece, InHel
 use Rattle.stream.specs.declared.step.Moved.{Moved}
 use Rattle.stream.specs.Places.{heldIn}
 use Rattle.stream.specs.Step.{Said, more, frame, refused, saidOf, meaningOf, Outcome, Moves}
-use Rattle.listing.specs.Lines.{frameLine, syncLine, lengthLine, crcLine, line}
-use Rattle.listing.specs.Listing.{longest}
-use Rattle.listing.specs.Put.{Puts, lineBy}
+use Rattle.lines.specs.Lines.{syncWord, lengthWord, frameLine, byteLine, crcLine, line}
+use Rattle.lines.specs.Lines.{longest}
+use Rattle.lines.specs.Put.{Puts, lineBy}
 use Rattle.listing.specs.Drain.{isStop, asksFor, lineFirst, Turns}
-use Rattle.listing.proofs.Puts.{puts-as}
+use Rattle.lines.proofs.Puts.{puts-as}
 
 -- the line of what is said, and whether that asks for more
 unfoldable lineSaid : Said → List ℕ
 lineSaid more = []
 lineSaid (frame h c) = frameLine (getD c 0 0) (getD c 2 0) (length c - 4)
 lineSaid (refused n vs) =
-    if eqb n 1 then syncLine (getD vs 0 0) else
-    if eqb n 2 then lengthLine (getD vs 0 0) else
+    if eqb n 1 then byteLine syncWord (getD vs 0 0) else
+    if eqb n 2 then byteLine lengthWord (getD vs 0 0) else
     if eqb n 3 then crcLine (getD vs 0 0) (getD vs 1 0) else []
 
 unfoldable isMore : Said → Bool

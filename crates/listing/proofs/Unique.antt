@@ -7,7 +7,7 @@ use denote.Ref.{now}
 use lib.ListN.{length}
 use Rattle.base.specs.Parts.{pasted}
 use Rattle.base.proofs.Tests.{by-test}
-use Rattle.base.proofs.Unique.{OneAnswer, same}
+use Rattle.base.proofs.Unique.{OneAnswer}
 use Rattle.stream.specs.Places.{heldIn}
 use Rattle.stream.specs.Step.{isSpan}
 use Rattle.listing.specs.Listing.{Listing}
@@ -15,7 +15,6 @@ use Rattle.listing.specs.Drain.{statusOf, Drains, Lists}
 use Rattle.listing.specs.declared.drain.Listed.{Listed}
 use Rattle.listing.specs.declared.drain.Status.{Status}
 use Rattle.listing.proofs.drain.list_in.Reads as list-in
-use Rattle.listing.proofs.drain.list_held.Reads as list-held
 
 -- what a listing shows
 pub record Shows : Type 0 where
@@ -58,6 +57,3 @@ one-listing m before start end input out a b =
 
 pub list-in-one : OneAnswer {Seen = Shows} list-in.Post (λ κs r s. shows r (now (s .0)) (now (s .1 .1 .1 .1 .0)))
 list-in-one κs a r r′ s s′ = one-listing _ _ _ _ _ _
-
-pub list-held-one : OneAnswer {Seen = ℕ × List ℕ} list-held.Post (λ κs r s. (r, now (s .0)))
-list-held-one κs a r r′ s s′ = same

@@ -14,9 +14,10 @@ use Rattle.stream.specs.Places.{heldIn}
 use Rattle.stream.specs.Step.{isSpan}
 use Rattle.stream.specs.declared.step.Answer.{Answer}
 use Rattle.stream.specs.declared.step.Answer.the-variants.{Stop, InPiece, InHeld, InvalidSync, InvalidPacketLength, InvalidCrc, BadState}
-use Rattle.listing.specs.Lines.{line, heldLine}
-use Rattle.listing.specs.Put.{Puts}
-use Rattle.listing.specs.Listing.{longest, Listing, listOf}
+use Rattle.lines.specs.Lines.{line, heldLine}
+use Rattle.lines.specs.Put.{Puts}
+use Rattle.listing.specs.Listing.{Listing, listOf}
+use Rattle.lines.specs.Lines.{longest}
 use Rattle.listing.specs.declared.drain.Turn.{Turn}
 use Rattle.listing.specs.declared.drain.Listed.{Listed}
 use Rattle.listing.specs.declared.drain.Status.{Status}

@@ -1,6 +1,3 @@
-pub mod Digits
-pub mod Lines
-pub mod Put
 pub mod Listing
 pub mod Drain
 pub mod Shown

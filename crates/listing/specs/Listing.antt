@@ -9,11 +9,7 @@ use Rattle.base.specs.Choice.{if_then_else_}
 use Rattle.reading.specs.Answer.{Answer}
 use Rattle.reading.specs.Reading.{reading}
 use Rattle.reading.specs.Call.{call}
-use Rattle.listing.specs.Lines.{line}
-
--- no line is longer
-abbrev pub longest : ℕ
-longest = 16
+use Rattle.lines.specs.Lines.{longest, line}
 
 pub record Listing : Type 0 where
   -- the bytes written

@@ -1,8 +1,5 @@
 // The answers to an input, each as a line, as many as the buffer has room for.
-use crate::line::put_line;
-use crate::put::digits;
-use crate::put::put_decimal;
-use crate::put::put_word;
+use lines::line::put_line;
 use stream::step::Answer;
 use stream::step::step_in;
 ghost use mathlib.Core.Path.{_≡_};
@@ -11,9 +8,9 @@ ghost use Prim.Native.Nat.{_+_, _≤_};
 ghost use lib.ListN.{length};
 ghost use Rattle.stream.specs.Places.{heldIn};
 ghost use Rattle.stream.specs.Step.{isSpan};
-ghost use Rattle.listing.specs.Listing.{longest, listOf};
+ghost use Rattle.lines.specs.Lines.{longest};
+ghost use Rattle.listing.specs.Listing.{listOf};
 ghost use Rattle.listing.specs.Drain.{isStop, Turns, Drains, Lists};
-ghost use Rattle.listing.specs.Shown.{heldLineOf};
 
 // Why a listing ended.
 pub enum Status {
@@ -138,16 +135,4 @@ pub fn list_in(places: &mut [u8], start: usize, end: usize, input: &[u8], out: &
         };
     }
     drain(places, start, end, input, out)
-}
-
-// The last line, of the held count, at the front of a buffer. Answers how many bytes were written: none where there is no room.
-pub fn list_held(out: &mut [u8], held: u8) -> usize
-    ensures { λ r. ⌜ (r, now (out .exit)) ≡ heldLineOf held (now (out .entry)) ⌝ }
-{
-    if out.len() < 6 + digits(held) {
-        return 0;
-    }
-    let a = put_word(out, 0, b"held");
-    let b = put_decimal(out, a, held);
-    put_word(out, b, b"\n")
 }

@@ -1,4 +1,2 @@
-// Lines of answers, written into a buffer that the caller lends.
+// The lines of the answers to an input, written into a buffer that the caller lends.
 pub mod drain;
-mod line;
-mod put;

@@ -2,8 +2,8 @@
 // is the promise of `listing`. A read or a write that fails ends it.
 use libc::STDIN_FILENO;
 use libc::STDOUT_FILENO;
+use lines::line::list_held;
 use listing::drain::Status;
-use listing::drain::list_held;
 use listing::drain::list_in;
 ghost use Prim.Native.Nat.{_+_, _≤_};
 ghost use lib.ListN.{length};

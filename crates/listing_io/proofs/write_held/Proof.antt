@@ -1,7 +1,7 @@
 -- `listing_io::write_held` is safe and ends. Assumes nothing.
 use native.Mathlib.Omega.{arith}
 use lib.ListN.{length-take}
-use Rattle.listing.proofs.Digits.{held-fits}
+use Rattle.lines.proofs.Digits.{held-fits}
 use borrow.Author.Needs.{needs}
 use Rattle.listing_io.proofs.write_held.Statement.{statement}
 use Rattle.listing_io.proofs.write_held.Tie as tie
