@@ -2,12 +2,12 @@
 -- Assumes nothing.
 use mathlib.Core.Path.{_≡_, refl, sym, ap, ap₂, _∙_}
 use mathlib.Core.List.{List, [], _∷_, _++_}
-use Prim.Native.Nat.{ℕ, suc, _+_, _≤_, _<_}
+use Prim.Native.Nat.{ℕ, _+_, _≤_, _<_}
 use native.Mathlib.Omega.{arith}
 use lib.ListN.{length, set, length-append}
-use lib.Seq.{paste, take-length}
+use lib.Seq.{paste}
 use Rattle.base.specs.Parts.{pasted}
-use Rattle.base.proofs.Parts.{pasted-nil, pasted-cons, pasted-append, length-pasted}
+use Rattle.base.proofs.Parts.{pasted-nil, pasted-append, length-pasted, paste-all, set-pasted}
 use Rattle.lines.specs.Put.{Puts}
 
 pub puts-none : {d : List ℕ} {at : ℕ} → Puts d at [] d at
@@ -27,8 +27,7 @@ length-puts {d} {at = at} {xs = xs} room p = ap length (p .written) ∙ length-p
 
 -- a whole slice that is copied
 pub puts-copy : {d e : List ℕ} {at : ℕ} (s : List ℕ) → e ≡ paste d at s (length s) → Puts d at s e (at + length s)
-unfolding pasted
-puts-copy s copied = record { next = refl; written = copied ∙ rw take-length }
+puts-copy {d} {at = at} s copied = record { next = refl; written = copied ∙ paste-all d at s (length s) refl }
 
 -- one more byte, stored behind a run
 pub stored : (d : List ℕ) (at : ℕ) (xs : List ℕ) (b : ℕ) {e : List ℕ} {k : ℕ} → e ≡ pasted d at xs → k ≡ at + length xs → k < length d
@@ -36,8 +35,8 @@ pub stored : (d : List ℕ) (at : ℕ) (xs : List ℕ) (b : ℕ) {e : List ℕ} 
 stored d at xs b {e} {k} p q inside =
     let long : length (pasted d at xs) ≡ length d = length-pasted d at xs (omega arith) in
     let there : k < length (pasted d at xs) = omega arith in
-    ap (λ (l : List ℕ). set l k b) (p ∙ sym (pasted-nil (pasted d at xs) (suc k)))
-    ∙ pasted-cons (pasted d at xs) k b [] there
+    ap (λ (l : List ℕ). set l k b) p
+    ∙ set-pasted (pasted d at xs) k b there
     ∙ ap (λ (j : ℕ). pasted (pasted d at xs) j (b ∷ [])) q
     ∙ pasted-append d at (length xs) xs (b ∷ []) refl (omega arith)
 

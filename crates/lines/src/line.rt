@@ -3,7 +3,7 @@ use crate::put::digits;
 use crate::put::put_decimal;
 use crate::put::put_hex;
 use crate::put::put_word;
-use stream::candidate::byte_at;
+use base::byte_at;
 use stream::step::Answer;
 ghost use mathlib.Core.Path.{_≡_};
 ghost use Prim.Native.Nat.{_+_, _-_, _≤_};

@@ -1,5 +1,5 @@
 // Words, digits and numbers at a place of a lent buffer. Each answers the place behind what it wrote.
-use stream::places::copy_in;
+use base::copy_in;
 ghost use mathlib.Core.Path.{_≡_};
 ghost use mathlib.Core.List.{[], _∷_};
 ghost use Prim.Native.Nat.{_+_, _≤_, _<_};
