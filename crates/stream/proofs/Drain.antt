@@ -110,7 +110,7 @@ module _ {m : ℕ} {before : List ℕ} {start end : ℕ} {input after : List ℕ
         let left = leaves m held input in
         let d : droppedBy (call m held input .answer) ≡ drops a = ap droppedBy e in
         let size : length (call m held input .held) ≡ r .end - r .start =
-            ap length (sym held-is) ∙ length-held after (r .start) (r .end) (moved .ordered) (omega (arith, moved .inside)) in
+        ap length (sym held-is) ∙ length-held after (r .start) (r .end) (moved .ordered) (omega (arith, moved .inside)) in
         omega (arith, length-held before start end low (omega arith), taken-is)
 
     pub shrinks : (r .answer ≡ Stop → ⊥) → r .end - r .start + (length input - r .taken) < end - start + length input

@@ -1,0 +1,3 @@
+// Entries for a host in Rust or C: they take numbers and slices, and answer eight bytes in one number.
+mod answer;
+pub mod state;
