@@ -1,22 +1,22 @@
 -- What a loop that calls again and again on the unread rest needs of each call: which answer of the reading it was, that fewer bytes are left, and
 -- what it adds to a listing. (That the history goes on: `goes-on` of Histories. That the state stays one: `still-span` of Bounds.)
 -- Assumes nothing.
-use mathlib.Core.Path.{_≡_, refl, sym, ap, ap₂, _∙_}
+use mathlib.Core.Path.{_≡_, refl, sym, ap, _∙_}
 use mathlib.Core.Bool.{Bool, true, false}
-use mathlib.Core.List.{List, [], _∷_, _++_, map}
+use mathlib.Core.List.{List, _++_, map}
 use Prim.Native.Nat.{ℕ, _+_, _-_, _≤_, _<_}
 use native.Mathlib.Omega.{arith}
 use lib.Dec.{ltb}
 use lib.ListN.{length, take, drop}
 use Rattle.reading.specs.Answer as reading
 use Rattle.reading.specs.Answer.{number, values, drops, row}
-use Rattle.reading.specs.Reading.{First, stop, says, first}
-use Rattle.reading.specs.Call.{Call, call, droppedBy}
+use Rattle.reading.specs.Reading.{First, stop, says}
+use Rattle.reading.specs.Call.{call, droppedBy}
 use Rattle.reading.specs.History.{answered}
 use Rattle.reading.proofs.Call.{leaves, answers-first}
 use Rattle.reading.proofs.First.{stands}
 use Rattle.stream.specs.Places.{heldIn}
-use Rattle.stream.specs.Step.{Said, more, frame, refused, saidOf, meaningOf, Outcome, Moves}
+use Rattle.stream.specs.Step.{more, frame, saidOf, meaningOf, Outcome, Moves}
 use Rattle.stream.specs.Rows.{rowsSaid, rowsOf}
 use Rattle.stream.specs.declared.step.Answer.{Answer}
 use Rattle.stream.specs.declared.step.Answer.the-variants.{Stop, InPiece, InHeld, InvalidSync, InvalidPacketLength, InvalidCrc, BadState}

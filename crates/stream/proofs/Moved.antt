@@ -2,7 +2,7 @@
 -- Assumes nothing.
 use mathlib.Core.Path.{_≡_, refl, sym, ap, ap₂, _∙_, subst}
 use mathlib.Core.Bool.{Bool, true, false, cond}
-use mathlib.Core.List.{List, [], _++_}
+use mathlib.Core.List.{List, _++_}
 use Prim.Native.Nat.{ℕ, _+_, _-_, _≤_, _<_}
 use native.Mathlib.Omega.{arith}
 use lib.Dec.{eqb}
@@ -18,7 +18,7 @@ use Rattle.stream.specs.declared.step.Answer.{Answer}
 use Rattle.stream.specs.declared.step.Answer.the-variants.{Stop, InPiece, InHeld, InvalidSync, InvalidPacketLength}
 use Rattle.stream.specs.declared.places.Span.{Span}
 use Rattle.stream.specs.Places.{heldIn, Appended}
-use Rattle.stream.specs.Step.{Said, frame, meaningOf, faultOf, droppedOf, answerOf, Placed, Moves}
+use Rattle.stream.specs.Step.{frame, meaningOf, faultOf, droppedOf, answerOf, Placed, Moves}
 use Rattle.stream.proofs.Held.{length-held, first-of-held, held-all, held-drop}
 use Rattle.stream.proofs.Judged.{Judged, retold, judged-fault, judged-check, fresh-stops, fresh-judged, held-stops, held-judged}
 

@@ -3,17 +3,17 @@
 use mathlib.Core.Path.{_≡_, refl, sym, ap, ap₂, _∙_}
 use mathlib.Core.Bool.{Bool, true, false, cond}
 use mathlib.Core.List.{List, [], _∷_}
-use Prim.Native.Nat.{ℕ, _-_, _≤_}
+use Prim.Native.Nat.{ℕ, _≤_}
 use native.Mathlib.Omega.{arith}
 use borrow.Author.Tests.{eqb-true, eqb-false}
 use denote.Ref.{now}
 use lib.Dec.{eqb}
-use lib.ListN.{length, getD, take, drop, length-drop}
+use lib.ListN.{length, getD, drop, length-drop}
 use lib.Seq.{length-take-le}
 use Rattle.base.proofs.Tests.{by-test}
 use Rattle.base.proofs.Unique.{OneAnswer, same}
 use Rattle.reading.specs.Answer as reading
-use Rattle.reading.specs.Answer.{number, values}
+use Rattle.reading.specs.Answer.{number}
 use Rattle.reading.specs.Reading.{First, stop, says}
 use Rattle.reading.proofs.Frame.{two-heads}
 use Rattle.stream.specs.Places.{heldIn}

@@ -5,3 +5,4 @@ pub mod Step
 pub mod Lent
 pub mod Seen
 pub mod Rows
+pub mod Run

@@ -3,7 +3,7 @@
 -- Assumes nothing.
 use Prim.Native.Nat.{ℕ, _-_}
 use mathlib.Core.List.{List, [], _∷_}
-use lib.ListN.{length, take, drop}
+use lib.ListN.{take, drop}
 use Rattle.stream.specs.Places.{heldIn}
 use Rattle.stream.specs.declared.step.Answer.{Answer}
 use Rattle.stream.specs.declared.step.Answer.the-variants.{Stop, InPiece, InHeld, InvalidSync, InvalidPacketLength, InvalidCrc, BadState}

@@ -10,7 +10,7 @@ use Rattle.crc.specs.declared.Check.{Check}
 use Rattle.crc.specs.declared.Check.the-variants.{Right, Wrong}
 use Rattle.reading.specs.Answer as reading
 use Rattle.reading.specs.Reading.{First, stop, says}
-use Rattle.reading.specs.Call.{Call, call}
+use Rattle.reading.specs.Call.{call}
 use Rattle.stream.specs.Places.{heldIn}
 use Rattle.stream.specs.declared.step.Answer.{Answer}
 use Rattle.stream.specs.declared.step.Answer.the-variants.{Stop, InPiece, InHeld, InvalidSync, InvalidPacketLength, InvalidCrc, BadState}
