@@ -3,7 +3,7 @@
 -- Assumes nothing.
 use mathlib.Core.Path.{_≡_, refl, sym, ap, _∙_}
 use mathlib.Core.Bool.{Bool, true, false}
-use mathlib.Core.List.{List, _++_, map}
+use mathlib.Core.List.{List, _++_, map, map-append}
 use Prim.Native.Nat.{ℕ, _+_, _-_, _≤_, _<_}
 use native.Mathlib.Omega.{arith}
 use lib.Dec.{ltb}
@@ -13,6 +13,8 @@ use Rattle.reading.specs.Answer.{number, values, drops, row}
 use Rattle.reading.specs.Reading.{First, stop, says}
 use Rattle.reading.specs.Call.{call, droppedBy}
 use Rattle.reading.specs.History.{answered}
+use Rattle.reading.specs.Tally.{count}
+use Rattle.reading.proofs.Tally.{count-append}
 use Rattle.reading.proofs.Call.{leaves, answers-first}
 use Rattle.reading.proofs.First.{stands}
 use Rattle.stream.specs.Places.{heldIn}
@@ -98,6 +100,14 @@ module _ {m : ℕ} {before : List ℕ} {start end : ℕ} {input after : List ℕ
   -- number and values of the answer, if any
   pub rows : map row (answered (call m held input .answer)) ≡ rowsOf (r .answer) input after
   rows = sym (said-rows (ltb 0 (length held)) (call m held input .answer)) ∙ ap rowsSaid (sym said-is)
+
+  -- and so what it adds to a listing of those given, and to any count over it: `frames` and `refusals` are two
+  pub rows-on : (given : List reading.Answer) → map row (given ++ answered (call m held input .answer)) ≡ map row given ++ rowsOf (r .answer) input after
+  rows-on given = map-append row given (answered (call m held input .answer)) ∙ ap (λ (x : List (List ℕ)). map row given ++ x) rows
+
+  pub count-on : (test : List ℕ → Bool) (given : List reading.Answer)
+      → count test (map row (given ++ answered (call m held input .answer))) ≡ count test (map row given) + count test (rowsOf (r .answer) input after)
+  count-on test given = ap (count test) (rows-on given) ∙ count-append test (map row given) (rowsOf (r .answer) input after)
 
   -- a call that answers leaves fewer bytes held and unread
   module _ (full : length before ≡ m) (kept : length after ≡ m) (low : start ≤ end) (high : end ≤ m) where
