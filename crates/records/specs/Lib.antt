@@ -1,0 +1,7 @@
+pub mod Answer
+pub mod Gps
+pub mod GpsExtended
+pub mod LinkStatistics
+pub mod BaroAltitude
+pub mod Battery
+pub mod Edges
