@@ -2,8 +2,9 @@
 use layout::ReadAnswer;
 use layout::Written;
 ghost use mathlib.Core.Path.{_≡_};
-ghost use Prim.Native.Nat.{_<_};
-ghost use lib.ListN.{getD};
+ghost use Prim.Native.Nat.{_+_, _≤_, _<_};
+ghost use lib.ListN.{length, getD};
+ghost use Rattle.base.specs.Parts.{part, pasted};
 ghost use Rattle.layout.specs.Writing.{writeOf};
 ghost use Rattle.channels.specs.Digits.{Below};
 ghost use Rattle.channels.specs.Channels.{channelsOf, bytesOf, channelsRead, firstAbove, channelsImage};
@@ -79,6 +80,17 @@ fn byte_of(channels: &[u16], i: usize) -> u8
     ((window >> (bit % 11)) % 256) as u8
 }
 
+// Eleven bytes hold eight channels. Two short loops are unrolled where one of 22 turns is not.
+fn put_group(buffer: &mut [u8], channels: &[u16], from: usize)
+    requires { ⌜ (from + 11 ≤ 22) × (from + 11 ≤ length (now buffer)) ⌝ }
+    requires { ⌜ Below 11 (now channels) ⌝ }
+    ensures { λ _. ⌜ now (buffer .exit) ≡ pasted (now (buffer .entry)) from (part (bytesOf (now (channels .entry))) from 11) ⌝ }
+{
+    for i in 0..11 {
+        buffer[from + i] = byte_of(channels, from + i);
+    }
+}
+
 // The place of the first channel above 2047, and past the last where there is none.
 fn first_above(channels: &[u16]) -> usize
     ensures { λ r. ⌜ r ≡ firstAbove (now (channels .entry)) ⌝ }
@@ -129,9 +141,8 @@ impl RcChannelsPacked {
         if buffer.len() < 22 {
             return Written::BufferOverflow;
         }
-        for i in 0..22 {
-            buffer[i] = byte_of(&packed, i);
-        }
+        put_group(buffer, &packed, 0);
+        put_group(buffer, &packed, 11);
         Written::Wrote(22)
     }
 }

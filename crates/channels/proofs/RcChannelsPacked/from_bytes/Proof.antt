@@ -6,19 +6,20 @@ use Prim.Native.Nat.{ℕ, _-_, _≤_}
 use native.Mathlib.Omega.{arith}
 use borrow.Author.Needs.{needs}
 use lib.ListN.{length, take, drop, set, replicate}
-use lib.Seq.{length-take-le}
+use lib.Seq.{length-take-le, take-all}
+use Rattle.base.specs.Parts.{pasted}
 use Rattle.base.proofs.Parts.{pasted-front}
 use borrow.Author.Tests.{lt-ltb, le-ltb}
 use Rattle.layout.specs.declared.ReadAnswer.the-variants.{Record}
 use Rattle.channels.specs.Digits.{number}
 use Rattle.channels.specs.Channels.{channelsOf, channelsRead}
 use Rattle.channels.proofs.Digits.{length-digits}
-use Rattle.channels.proofs.Fill.{filling, fill-start, fill-next, fill-end}
+use Rattle.channels.proofs.Fill.{filling, fill-start, fill-front}
 use Rattle.channels.proofs.RcChannelsPacked.from_bytes.Statement.{statement}
 use Rattle.channels.proofs.RcChannelsPacked.from_bytes.Tie as tie
 
 abbrev Inv-loop : tie.InvT-loop
-Inv-loop payload channels₀ whole i₀ channels i = (i ≤ 16) × (channels ≡ filling (channelsOf whole) channels₀ i)
+Inv-loop payload channels₀ whole i₀ channels i = (i ≤ 16) × (channels ≡ filling (channelsOf whole) channels₀ 0 i)
 
 abbrev μ-loop : tie.MeasureT-loop
 μ-loop payload channels₀ whole i₀ channels i = 16 - i
@@ -31,7 +32,7 @@ slice-aggregate-whole : tie.Need-slice-aggregate-whole Inv-loop μ-loop
 slice-aggregate-whole c = sym (length-take-le 22 (c .before .before .before .args .payload .now) (c .before .if1 .left))
 
 loop-holds : tie.Need-loop-holds Inv-loop μ-loop
-loop-holds c = (omega arith, fill-start (channelsOf (take 22 (c .before .before .before .args .payload .now))) (replicate 16 0))
+loop-holds c = (omega arith, fill-start (channelsOf (take 22 (c .before .before .before .args .payload .now))) (replicate 16 0) 0)
 
 channel-of-requires : tie.Need-channel-of-requires Inv-loop μ-loop
 channel-of-requires c κs = search needs
@@ -57,8 +58,8 @@ loop-again c =
     let n : length s ≡ 16 = length-digits 11 16 (number 8 whole) in (
       omega arith,
       ap (λ (l : List ℕ). set l i (c .channel-of .result)) (at-loop .loop .inv .1)
-          ∙ ap (set (filling s (replicate 16 0) i) i) (c .channel-of .ensures)
-          ∙ fill-next s (replicate 16 0) i (omega arith) (omega arith),
+          ∙ ap (set (filling s (replicate 16 0) 0 i) i) (c .channel-of .ensures)
+          ∙ fill-front s (replicate 16 0) i (omega arith) (omega arith),
     )
 
 returns-2 : tie.Need-returns-2 Inv-loop μ-loop
@@ -67,11 +68,12 @@ returns-2 c =
     let at-loop = c .before in
     let payload = at-loop .before .before .before .before .args .payload .now in
     let s = channelsOf (take 22 payload) in
+    let long : length s ≡ 16 = length-digits 11 16 (number 8 (take 22 payload)) in
     let all : at-loop .loop .i ≡ 16 = omega arith in
     rw (le-ltb (length payload) 22 (at-loop .before .before .if1 .left))
     (ap (λ (l : List ℕ). record { answer = Record; channels = record { 0 = l } })
-    (at-loop .loop .inv .1 ∙ ap (filling s (replicate 16 0)) all
-    ∙ fill-end s (replicate 16 0) 16 (length-digits 11 16 (number 8 (take 22 payload))) ∙ pasted-front (replicate 16 0) s ∙ ap (λ (n : ℕ). s ++ drop n (replicate 16 0)) (length-digits 11 16 (number 8 (take 22 payload))) ∙ append-nil s))
+    (at-loop .loop .inv .1 ∙ ap (filling s (replicate 16 0) 0) all ∙ ap (pasted (replicate 16 0) 0) (take-all 16 s (omega arith))
+    ∙ pasted-front (replicate 16 0) s ∙ ap (λ (n : ℕ). s ++ drop n (replicate 16 0)) long ∙ append-nil s))
 
 pub from-bytes-spec : {M : Type 1} → statement M
 from-bytes-spec =
