@@ -1,3 +1,4 @@
 pub mod Fits
 pub mod Packing
+pub mod Saves
 pub mod Unique

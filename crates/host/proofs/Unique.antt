@@ -18,7 +18,7 @@ use Rattle.stream.specs.declared.step.Answer.the-variants.{Stop, InPiece, InHel
 use Rattle.stream.specs.declared.step.Answered.{Answered}
 use Rattle.stream.proofs.Unique.{one-lent}
 use Rattle.host.specs.declared.answer.Told.{Told}
-use Rattle.host.specs.Answer.{bytesOf, packed}
+use Rattle.host.specs.Answer.{packed, lowestFirst}
 use Rattle.host.specs.Call.{toldAnswer, toldCall, Calls, AnswerFits}
 use Rattle.host.specs.Seen.{unpacked, Shown, shown}
 use Rattle.host.proofs.Fits.{call-fits}
@@ -28,7 +28,7 @@ use Rattle.host.proofs.state.crsf_next_raw_packet.Reads as next-raw-pac
 -- ---- The call of the stream
 
 abbrev carrying : ℕ → ℕ → List ℕ
-carrying a b = unpacked 3 (packed (a ∷ b ∷ 0 ∷ []))
+carrying a b = unpacked 3 (lowestFirst (a ∷ b ∷ 0 ∷ []))
 
 -- the eight bytes of an answer, with 0 for an offset in the state: a function of what the stream's own promise leaves one of
 unplacedBytes : ℕ → Answer → List ℕ
@@ -47,7 +47,7 @@ abbrev heldBy : List ℕ → List ℕ
 heldBy state = heldIn (drop 2 state) (getD state 0 0) (getD state 1 0)
 
 by-cases : (t : ℕ) (a : Answer) (state : List ℕ) → t < 256 → AnswerFits a
-    → shown (packed (bytesOf (toldAnswer t a))) state
+    → shown (packed (toldAnswer t a)) state
     ≡ record { answer = unplacedBytes t (unplaced a); frame = frameAmong a (drop 2 state); held = heldBy state; refused = ifRefused a state }
 unfolding toldAnswer shown unplacedBytes unplaced frameAmong ifRefused
 by-cases t Stop state u f = rw (unpack 255 t 0 0 0 (0 ∷ 0 ∷ 0 ∷ []) (lit< tt) u (lit< tt) (lit< tt) (lit< tt))

@@ -8,9 +8,12 @@ use Rattle.host.specs.declared.answer.Told.{Told}
 abbrev pub bytesOf : Told → List ℕ
 bytesOf t = t .number ∷ t .taken ∷ t .in_state ∷ t .at ∷ t .len ∷ t .first ∷ t .second ∷ 0 ∷ []
 
-unfoldable pub packed : List ℕ → ℕ
-packed [] = 0
-packed (b ∷ bs) = b + 256 * packed bs
+unfoldable pub lowestFirst : List ℕ → ℕ
+lowestFirst [] = 0
+lowestFirst (b ∷ bs) = b + 256 * lowestFirst bs
+
+abbrev pub packed : Told → ℕ
+packed t = lowestFirst (bytesOf t)
 
 -- a number, what was taken, and what the number carries
 abbrev pub toldNumber : ℕ → ℕ → ℕ → ℕ → Told
@@ -18,4 +21,12 @@ toldNumber n t a b = record { number = n; taken = t; in_state = 0; at = 0; len =
 
 -- what was taken, and where a frame stands, or how many bytes were written
 abbrev pub toldPlace : ℕ → ℕ → ℕ → ℕ → Told
-toldPlace t where-it-is p l = record { number = 0; taken = t; in_state = where-it-is; at = p; len = l; first = 0; second = 0 }
+toldPlace t s p l = record { number = 0; taken = t; in_state = s; at = p; len = l; first = 0; second = 0 }
+
+-- only a count: of bytes that were written or are held, or of numbers that were read
+abbrev pub toldCount : ℕ → Told
+toldCount n = toldPlace 0 0 0 n
+
+-- only a refusal
+abbrev pub toldRefusal : ℕ → Told
+toldRefusal k = toldNumber k 0 0 0

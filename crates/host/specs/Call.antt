@@ -8,7 +8,7 @@ use Rattle.stream.specs.declared.step.Answer.{Answer}
 use Rattle.stream.specs.declared.step.Answer.the-variants.{Stop, InPiece, InHeld, InvalidSync, InvalidPacketLength, InvalidCrc, BadState}
 use Rattle.stream.specs.declared.step.Answered.{Answered}
 use Rattle.host.specs.declared.answer.Told.{Told}
-use Rattle.host.specs.Answer.{bytesOf, packed, toldNumber, toldPlace}
+use Rattle.host.specs.Answer.{packed, toldNumber, toldPlace}
 
 -- document 01's number and values of each answer. 255 asks for more; a frame among the held bytes is told by its place in the 66 bytes
 unfoldable pub toldAnswer : ℕ → Answer → Told
@@ -27,7 +27,7 @@ toldCall a = toldAnswer (a .taken) (a .answer)
 pub record Calls (before input after : List ℕ) (r : ℕ) : Type 0 where
   pub answered : Answered
   pub lends : Lends before input after answered
-  pub told : r ≡ packed (bytesOf (toldCall answered))
+  pub told : r ≡ packed (toldCall answered)
 
 -- a frame's place and length fit a byte each
 abbrev pub AnswerFits : Answer → Type 0

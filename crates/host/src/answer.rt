@@ -3,7 +3,7 @@ use stream::step::Answer;
 use stream::step::Answered;
 ghost use mathlib.Core.Path.{_≡_};
 ghost use Prim.Native.Nat.{_+_, _*_, _^_, _<_};
-ghost use Rattle.host.specs.Answer.{bytesOf, packed, toldNumber, toldPlace};
+ghost use Rattle.host.specs.Answer.{packed, toldNumber, toldPlace, toldCount, toldRefusal};
 ghost use Rattle.host.specs.Call.{toldAnswer, toldCall, AnswerFits, CallFits};
 
 // The eight bytes, the last of which is 0. A field that an answer does not speak of is 0.
@@ -32,7 +32,7 @@ fn below(low: u8, rest: u64) -> u64
 
 // The eight bytes as one number, lowest first.
 pub(crate) fn pack(t: Told) -> u64
-    ensures { λ r. ⌜ r ≡ packed (bytesOf t) ⌝ }
+    ensures { λ r. ⌜ r ≡ packed t ⌝ }
 {
     below(
         t.number,
@@ -99,6 +99,21 @@ fn told_answer(taken: u8, answer: Answer) -> Told
         } => said(3, taken, calculated, carried),
         Answer::BadState => said(8, taken, 0, 0),
     }
+}
+
+// Only a count.
+pub(crate) fn count(n: usize) -> u64
+    requires { ⌜ n < 256 ⌝ }
+    ensures { λ r. ⌜ r ≡ packed (toldCount n) ⌝ }
+{
+    pack(placed(0, 0, 0, narrow(n)))
+}
+
+// Only a refusal.
+pub(crate) fn refuse(number: u8) -> u64
+    ensures { λ r. ⌜ r ≡ packed (toldRefusal number) ⌝ }
+{
+    pack(said(number, 0, 0, 0))
 }
 
 // What a call of the stream says.

@@ -1,7 +1,7 @@
 -- `host::answer::pack` meets its contract. Assumes nothing.
 use borrow.Author.Needs.{needs}
 use native.Mathlib.Omega.{arith}
-use Rattle.host.specs.Answer.{packed}
+use Rattle.host.specs.Answer.{lowestFirst}
 use Rattle.host.proofs.answer.pack.Statement.{statement}
 use Rattle.host.proofs.answer.pack.Tie as tie
 
@@ -27,7 +27,7 @@ below-requires-7 : tie.Need-below-requires-7
 below-requires-7 c κs = search needs
 
 returns : tie.Need-returns
-unfolding packed
+unfolding lowestFirst
 returns c = omega arith
 
 pub pack-spec : {M : Type 1} → statement M

@@ -1,7 +1,6 @@
 -- `host::state::crsf_next_raw_packet` meets its contract. Assumes nothing.
 use mathlib.Core.Path.{_∙_, ap}
-use Rattle.host.specs.declared.answer.Told.{Told}
-use Rattle.host.specs.Answer.{bytesOf, packed}
+use Rattle.host.specs.Answer.{packed}
 use Rattle.host.proofs.Fits.{call-fits}
 use borrow.Author.Needs.{needs}
 use Rattle.host.proofs.state.crsf_next_raw_packet.Statement.{statement}
@@ -25,7 +24,7 @@ returns c =
     record {
       answered = call .step-lent .result;
       lends = call .step-lent .ensures;
-      told = c .pack .ensures ∙ ap (λ (t : Told). packed (bytesOf t)) (c .before .told-call .ensures);
+      told = c .pack .ensures ∙ ap packed (c .before .told-call .ensures);
     }
 
 pub crsf-next-raw-packet-spec : {M : Type 1} → statement M
