@@ -2,3 +2,4 @@ pub mod Built
 pub mod Fits
 pub mod Payload
 pub mod Laws
+pub mod Unique
