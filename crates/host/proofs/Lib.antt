@@ -2,4 +2,5 @@ pub mod Fits
 pub mod Packing
 pub mod Saves
 pub mod Writes
+pub mod Given
 pub mod Unique

@@ -2,4 +2,6 @@ pub mod Answer
 pub mod Call
 pub mod State
 pub mod Write
+pub mod Read
+pub mod Query
 pub mod Seen
