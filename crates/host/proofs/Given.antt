@@ -2,15 +2,24 @@
 -- Assumes nothing.
 use mathlib.Core.Path.{_≡_, refl, sym, ap, _∙_}
 use mathlib.Core.List.{List, [], _∷_, _++_}
-use Prim.Native.Nat.{ℕ, suc, _+_, _≤_, _<_}
+use Prim.Native.Nat.{ℕ, suc, _+_, _^_, _≤_, _<_}
 use native.Mathlib.Numerals.{add-one}
 use native.Mathlib.Omega.{arith}
 use borrow.Author.Tests.{le-leb, lt-leb, leb-true}
-use lib.Dec.{leb, lit≤}
-use lib.IntN.{ℤ}
+use lib.Dec.{leb, lit≤, lit<}
+use lib.IntN.{ℤ, pos}
+use lib.Signed.{mag}
 use lib.ListN.{length, getD, take, drop, set}
 use lib.Seq.{drop-cons, set-at, append-snoc, take-suc, length-take-le}
+use Rattle.base.specs.Bytes.{Bytes}
+use Rattle.base.specs.Parts.{part}
+use Rattle.base.proofs.Parts.{length-part, bytes-part}
 use Rattle.base.proofs.Tests.{by-test}
+use Rattle.numbers.specs.BigEndian.{beOf}
+use Rattle.numbers.proofs.BigEndian.{beOf-lt}
+use Rattle.records.specs.Answer.{Answer}
+use Rattle.records.specs.Battery.{batteryValues, batteryRead}
+use Rattle.records.specs.declared.battery.Battery.{Battery}
 use Rattle.layout.specs.declared.ReadAnswer.{ReadAnswer}
 use Rattle.layout.specs.declared.ReadAnswer.the-variants.{Record, InvalidPayloadLength}
 use Rattle.channels.specs.Channels.{channelsRead}
@@ -20,7 +29,7 @@ use Rattle.rpm.specs.Rpm.{rpmField, rpmRead}
 use Rattle.rpm.specs.declared.RpmRead.{RpmRead}
 use Rattle.host.specs.declared.answer.Told.{Told}
 use Rattle.host.specs.Answer.{packed, toldCount, toldRefusal}
-use Rattle.host.specs.Read.{given, byAnswer, givesChannels, toldRun, givesRpm}
+use Rattle.host.specs.Read.{given, gives, byAnswer, givesChannels, toldRun, givesRpm}
 
 module _ {A : Type 0} (s d : List A) where
   pub copy-more : (z : A) (i : ℕ) → i < length s → i < length d → set (take i s ++ drop i d) i (getD s i z) ≡ take (i + 1) s ++ drop (i + 1) d
@@ -75,3 +84,33 @@ few-read payload =
 
 pub rpm-few : {m : RpmRead} (payload : List ℕ) → m ≡ rpmRead payload → m .rpm .count ≤ 19
 rpm-few payload e = rw e (few-read payload)
+
+-- ---- Records of fixed layouts
+
+module _ {read : Answer} (out : List ℤ) where
+  pub fixed-given : (vs : List ℤ) (n : ℕ) → length vs ≡ n → read ≡ (0, vs) → given (toldCount n) vs out ≡ gives read out
+  unfolding gives
+  fixed-given vs n size e = rw (e, size)
+
+  pub fixed-refused : read ≡ (4, []) → (packed (toldRefusal 4), out) ≡ gives read out
+  unfolding gives
+  fixed-refused e = rw e
+
+-- the capacity that a battery record reads as has 24 bits
+capacity-bound : (payload : List ℕ) → Bytes payload → 7 ≤ length payload → beOf (part payload 4 3) < 2 ^ 24
+capacity-bound payload b h =
+    rw (length-part payload 4 3 (omega arith)) at (beOf-lt (part payload 4 3) (bytes-part payload 4 3 b))
+
+third-fits : (payload : List ℕ) → Bytes payload → mag (getD (batteryRead payload .1) 2 (pos 0)) < 2 ^ 24
+unfolding batteryRead
+third-fits payload b =
+    by-test (leb 9 (length payload))
+    (λ t. simp t (capacity-bound payload b (omega (arith, leb-true 9 (length payload) t))))
+    (λ t.
+    by-test (leb 8 (length payload))
+    (λ u. simp (t, u) (capacity-bound payload b (omega (arith, leb-true 8 (length payload) u))))
+    (λ u. simp (t, u) (lit< tt)))
+
+pub capacity-fits : (payload : List ℕ) (x : Battery) → Bytes payload → batteryRead payload ≡ (0, batteryValues x) → x .«capacity_used» < 2 ^ 24
+unfolding batteryValues
+capacity-fits payload x b e = rw (sym (ap (λ (a : Answer). mag (getD (a .1) 2 (pos 0))) e)) (third-fits payload b)
