@@ -2,12 +2,13 @@
 -- `ensures`, so a weaker clause there breaks its line here.
 -- Assumes nothing.
 use mathlib.Core.Path.{_≡_, refl, sym, ap, _∙_}
-use mathlib.Core.Bool.{true, false}
+use mathlib.Core.Bool.{Bool, true, false}
 use mathlib.Core.List.{List, [], _∷_}
 use Prim.Native.Nat.{ℕ, _+_, _<_}
 use native.Mathlib.Nat.{add-comm}
 use denote.Ref.{now}
 use lib.Dec.{eqb, lit<}
+use lib.IntN.{ℤ}
 use lib.ListN.{length, getD, take, drop, set}
 use lib.Seq.{drop-drop}
 use Rattle.base.proofs.Unique.{OneAnswer, same}
@@ -24,6 +25,27 @@ use Rattle.host.specs.Seen.{unpacked, Shown, shown}
 use Rattle.host.proofs.Fits.{call-fits}
 use Rattle.host.proofs.Packing.{unpack}
 use Rattle.host.proofs.state.crsf_next_raw_packet.Reads as next-raw-packet
+use Rattle.host.proofs.state.crsf_reset.Reads as reset
+use Rattle.host.proofs.state.crsf_save.Reads as save
+use Rattle.host.proofs.state.crsf_restore.Reads as restore
+use Rattle.host.proofs.state.crsf_held.Reads as held
+use Rattle.host.proofs.write.crsf_write_link_statistics.Reads as write-link-statistics
+use Rattle.host.proofs.write.crsf_write_rc_channels_packed.Reads as write-rc-channels-packed
+use Rattle.host.proofs.write.crsf_write_gps.Reads as write-gps
+use Rattle.host.proofs.write.crsf_write_gps_extended.Reads as write-gps-extended
+use Rattle.host.proofs.write.crsf_write_battery.Reads as write-battery
+use Rattle.host.proofs.write.crsf_write_baro_altitude.Reads as write-baro-altitude
+use Rattle.host.proofs.write.crsf_write_rpm.Reads as write-rpm
+use Rattle.host.proofs.read.crsf_read_link_statistics.Reads as read-link-statistics
+use Rattle.host.proofs.read.crsf_read_rc_channels_packed.Reads as read-rc-channels-packed
+use Rattle.host.proofs.read.crsf_read_gps.Reads as read-gps
+use Rattle.host.proofs.read.crsf_read_gps_extended.Reads as read-gps-extended
+use Rattle.host.proofs.read.crsf_read_battery.Reads as read-battery
+use Rattle.host.proofs.read.crsf_read_baro_altitude.Reads as read-baro-altitude
+use Rattle.host.proofs.read.crsf_read_rpm.Reads as read-rpm
+use Rattle.host.proofs.query.crsf_is_address.Reads as is-address
+use Rattle.host.proofs.query.crsf_header_of.Reads as header-of
+use Rattle.host.proofs.query.crsf_checksum.Reads as checksum
 
 -- ---- The call of the stream
 
@@ -71,3 +93,74 @@ one-call before input {after} {after′} {r} {r′} x y =
 
 pub next-raw-packet-one : OneAnswer {Seen = Shown} next-raw-packet.Post (λ κs r s. shown r (now (s .0)))
 next-raw-packet-one κs a r r′ s s′ = one-call (now (a .0)) (now (a .1 .0))
+
+-- ---- The state
+
+pub reset-one : OneAnswer {Seen = ℕ × List ℕ} reset.Post (λ κs r s. (r, now (s .0)))
+reset-one κs a r r′ s s′ = same
+
+pub save-one : OneAnswer {Seen = ℕ × List ℕ} save.Post (λ κs r s. (r, now (s .1 .0)))
+save-one κs a r r′ s s′ = same
+
+pub restore-one : OneAnswer {Seen = ℕ × List ℕ} restore.Post (λ κs r s. (r, now (s .0)))
+restore-one κs a r r′ s s′ = same
+
+pub held-one : OneAnswer {Seen = ℕ} held.Post (λ κs r s. r)
+held-one κs a r r′ s s′ = same
+
+-- ---- Writers
+
+pub write-link-statistics-one : OneAnswer {Seen = ℕ × List ℕ} write-link-statistics.Post (λ κs r s. (r, now (s .0)))
+write-link-statistics-one κs a r r′ s s′ = same
+
+pub write-rc-channels-packed-one : OneAnswer {Seen = ℕ × List ℕ} write-rc-channels-packed.Post (λ κs r s. (r, now (s .0)))
+write-rc-channels-packed-one κs a r r′ s s′ = same
+
+pub write-gps-one : OneAnswer {Seen = ℕ × List ℕ} write-gps.Post (λ κs r s. (r, now (s .0)))
+write-gps-one κs a r r′ s s′ = same
+
+pub write-gps-extended-one : OneAnswer {Seen = ℕ × List ℕ} write-gps-extended.Post (λ κs r s. (r, now (s .0)))
+write-gps-extended-one κs a r r′ s s′ = same
+
+pub write-battery-one : OneAnswer {Seen = ℕ × List ℕ} write-battery.Post (λ κs r s. (r, now (s .0)))
+write-battery-one κs a r r′ s s′ = same
+
+pub write-baro-altitude-one : OneAnswer {Seen = ℕ × List ℕ} write-baro-altitude.Post (λ κs r s. (r, now (s .0)))
+write-baro-altitude-one κs a r r′ s s′ = same
+
+pub write-rpm-one : OneAnswer {Seen = ℕ × List ℕ} write-rpm.Post (λ κs r s. (r, now (s .0)))
+write-rpm-one κs a r r′ s s′ = same
+
+-- ---- Readers
+
+pub read-link-statistics-one : OneAnswer {Seen = ℕ × List ℤ} read-link-statistics.Post (λ κs r s. (r, now (s .1 .0)))
+read-link-statistics-one κs a r r′ s s′ = same
+
+pub read-rc-channels-packed-one : OneAnswer {Seen = ℕ × List ℕ} read-rc-channels-packed.Post (λ κs r s. (r, now (s .1 .0)))
+read-rc-channels-packed-one κs a r r′ s s′ = same
+
+pub read-gps-one : OneAnswer {Seen = ℕ × List ℤ} read-gps.Post (λ κs r s. (r, now (s .1 .0)))
+read-gps-one κs a r r′ s s′ = same
+
+pub read-gps-extended-one : OneAnswer {Seen = ℕ × List ℤ} read-gps-extended.Post (λ κs r s. (r, now (s .1 .0)))
+read-gps-extended-one κs a r r′ s s′ = same
+
+pub read-battery-one : OneAnswer {Seen = ℕ × List ℤ} read-battery.Post (λ κs r s. (r, now (s .1 .0)))
+read-battery-one κs a r r′ s s′ = same
+
+pub read-baro-altitude-one : OneAnswer {Seen = ℕ × List ℤ} read-baro-altitude.Post (λ κs r s. (r, now (s .1 .0)))
+read-baro-altitude-one κs a r r′ s s′ = same
+
+pub read-rpm-one : OneAnswer {Seen = ℕ × List ℤ} read-rpm.Post (λ κs r s. (r, now (s .1 .0)))
+read-rpm-one κs a r r′ s s′ = same
+
+-- ---- Questions
+
+pub is-address-one : OneAnswer {Seen = Bool} is-address.Post (λ κs r s. r)
+is-address-one κs a r r′ s s′ = same
+
+pub header-of-one : OneAnswer {Seen = ℕ} header-of.Post (λ κs r s. r)
+header-of-one κs a r r′ s s′ = same
+
+pub checksum-one : OneAnswer {Seen = ℕ} checksum.Post (λ κs r s. r)
+checksum-one κs a r r′ s s′ = same
