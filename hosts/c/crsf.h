@@ -27,6 +27,7 @@
 #ifndef CRSF_H
 #define CRSF_H
 
+#include <stdbool.h>
 #include <stddef.h>
 #include <stdint.h>
 
@@ -43,7 +44,7 @@ typedef struct crsf_answer {
     uint8_t in_state; /* of a frame: 1 where its bytes stand in the state, 0 where they stand in the input */
     uint8_t at;       /* of a frame: where it begins, in the 66 bytes of the state or in the input */
     uint8_t len;      /* of a frame its bytes; else how many bytes were written or are held, or how many numbers were read */
-    uint8_t first;    /* what a refusal carries, see below; a query's answer; the source id of an RPM record */
+    uint8_t first;    /* what a refusal carries, see below; the source id of an RPM record that was read */
     uint8_t second;   /* CRSF_INVALID_CRC: the carried check byte */
     uint8_t zero;     /* 0 */
 } crsf_answer;
@@ -97,16 +98,16 @@ crsf_answer crsf_held(const uint8_t *state, size_t state_len);
 
 /* ---- Queries ------------------------------------------------------------------------------------------------------------------------------- */
 
-/* first: 1 for one of the 24 addresses, else 0. */
-crsf_answer crsf_is_address(uint8_t byte);
+/* Whether a byte is one of the 24 addresses. */
+bool crsf_is_address(uint8_t byte);
 
 enum { CRSF_UNLISTED = 0, CRSF_SHORT = 1, CRSF_EXTENDED = 2 };
 
-/* first: whether a packet type is unlisted, or has a short or an extended header. */
-crsf_answer crsf_header_of(uint8_t packet_type);
+/* Whether a packet type is unlisted, or has a short or an extended header. */
+uint8_t crsf_header_of(uint8_t packet_type);
 
-/* first: the check byte of type and payload (CRC-8/DVB-S2). */
-crsf_answer crsf_checksum(const uint8_t *bytes, size_t bytes_len);
+/* The check byte of a type and its payload (CRC-8/DVB-S2). */
+uint8_t crsf_checksum(const uint8_t *bytes, size_t bytes_len);
 
 /* ---- Records ------------------------------------------------------------------------------------------------------------------------------- */
 
