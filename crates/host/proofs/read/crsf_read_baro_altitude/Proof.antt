@@ -1,0 +1,77 @@
+-- `host::read::crsf_read_baro_altitude` meets its contract. Assumes nothing.
+use mathlib.Core.Path.{refl, sym, ap, ap₂, _∙_}
+use mathlib.Core.List.{List}
+use Prim.Native.Nat.{ℕ}
+use lib.IntN.{ℤ}
+use lib.ListN.{take}
+use Rattle.records.specs.BaroAltitude.{baroAltitudeValues, baroAltitudeAnswer}
+use Rattle.host.specs.declared.answer.Told.{Told}
+use Rattle.host.specs.Read.{given}
+use Rattle.host.proofs.Given.{fixed-given, fixed-refused}
+use borrow.Author.Needs.{needs}
+use Rattle.host.proofs.read.crsf_read_baro_altitude.Statement.{statement}
+use Rattle.host.proofs.read.crsf_read_baro_altitude.Tie as tie
+
+from-bytes-requires : tie.Need-from-bytes-requires
+from-bytes-requires c κs = search needs
+
+enum-known-read : tie.Need-enum-known-read
+enum-known-read c = search needs
+
+baro-altitude-values-requires : tie.Need-baro-altitude-values-requires
+baro-altitude-values-requires c κs = search needs
+
+placed-requires : tie.Need-placed-requires
+placed-requires c κs = search needs
+
+slice-aggregate-give : tie.Need-slice-aggregate-give
+slice-aggregate-give c = search needs
+
+give-requires : tie.Need-give-requires
+give-requires c κs = search needs
+
+enum-told : tie.Need-enum-told
+enum-told c = search needs
+
+refuse-requires : tie.Need-refuse-requires
+refuse-requires c κs = search needs
+
+same-length : tie.Need-same-length
+same-length c = search needs
+
+returns : tie.Need-returns
+unfolding baroAltitudeValues baroAltitudeAnswer
+returns c =
+    let gave = c .before in
+    let made = gave .before .before .before in
+    let told = made .before .before .before in
+    let read = told .before .before in
+    let a = read .before .before .args in
+    gave .give .ensures
+    ∙ ap₂ (λ (t : Told) (vs : List ℤ). given t (take 2 vs) (a .out .now)) (made .placed .ensures) (made .before .baro-altitude-values .ensures)
+    ∙ fixed-given (a .out .now) (baroAltitudeValues (told .read .given .0 .0)) 2 refl (sym (read .from-bytes .ensures) ∙ ap baroAltitudeAnswer (told .read .given .1))
+
+returns-2 : tie.Need-returns-2
+unfolding baroAltitudeAnswer
+returns-2 c =
+    let told = c .before in
+    let read = told .before .before in
+    let a = read .before .before .args in
+    ap (λ (r : ℕ). (r, a .out .now)) (c .refuse .ensures)
+    ∙ fixed-refused (a .out .now) (sym (read .from-bytes .ensures) ∙ ap baroAltitudeAnswer (told .enum-told .given .1))
+
+pub crsf-read-baro-altitude-spec : {M : Type 1} → statement M
+crsf-read-baro-altitude-spec =
+    tie.close
+    (tie.spec
+    from-bytes-requires
+    enum-known-read
+    baro-altitude-values-requires
+    placed-requires
+    slice-aggregate-give
+    give-requires
+    enum-told
+    refuse-requires
+    same-length
+    returns
+    returns-2)

@@ -1,0 +1,32 @@
+-- `host::state::crsf_next_raw_packet` meets its contract. Assumes nothing.
+use mathlib.Core.Path.{_∙_, ap}
+use Rattle.host.specs.Answer.{packed}
+use Rattle.host.proofs.Fits.{call-fits}
+use borrow.Author.Needs.{needs}
+use Rattle.host.proofs.state.crsf_next_raw_packet.Statement.{statement}
+use Rattle.host.proofs.state.crsf_next_raw_packet.Tie as tie
+
+step-lent-requires : tie.Need-step-lent-requires
+step-lent-requires c κs = search needs
+
+told-call-requires : tie.Need-told-call-requires
+told-call-requires c κs = call-fits (c .before .before .step-lent .ensures)
+
+pack-requires : tie.Need-pack-requires
+pack-requires c κs = search needs
+
+same-length : tie.Need-same-length
+same-length c = search needs
+
+returns : tie.Need-returns
+returns c =
+    let call = c .before .before .before .before in
+    record {
+      answered = call .step-lent .result;
+      lends = call .step-lent .ensures;
+      told = c .pack .ensures ∙ ap packed (c .before .told-call .ensures);
+    }
+
+pub crsf-next-raw-packet-spec : {M : Type 1} → statement M
+crsf-next-raw-packet-spec =
+    tie.close (tie.spec step-lent-requires told-call-requires pack-requires same-length returns)

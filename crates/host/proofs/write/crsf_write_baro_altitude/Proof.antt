@@ -1,0 +1,26 @@
+-- `host::write::crsf_write_baro_altitude` meets its contract. Assumes nothing.
+use Rattle.frames.proofs.Fits.{baro-altitude-small}
+use Rattle.host.proofs.Writes.{frame-fits, frame-told}
+use mir.Syntax.{w8}
+use mir.ValLaws.{toZ-ofZ}
+use borrow.Author.Needs.{needs}
+use Rattle.host.proofs.write.crsf_write_baro_altitude.Statement.{statement}
+use Rattle.host.proofs.write.crsf_write_baro_altitude.Tie as tie
+
+write-baro-altitude-requires : tie.Need-write-baro-altitude-requires
+write-baro-altitude-requires c κs = search needs
+
+wrote-requires : tie.Need-wrote-requires
+wrote-requires c κs = frame-fits _ _ _ _ (c .before .before .write-baro-altitude .ensures) (baro-altitude-small _) tt
+
+same-length : tie.Need-same-length
+same-length c = search needs
+
+returns : tie.Need-returns
+returns c =
+    let fits = c .before .before .before .before .before .before .fits in
+    simp (toZ-ofZ w8 _ (fits .vertical-speed-packed)) at (frame-told _ _ _ _ (c .before .before .before .write-baro-altitude .ensures) (c .wrote .ensures))
+
+pub crsf-write-baro-altitude-spec : {M : Type 1} → statement M
+crsf-write-baro-altitude-spec =
+    tie.close (tie.spec write-baro-altitude-requires wrote-requires same-length returns)

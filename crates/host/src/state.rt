@@ -1,0 +1,90 @@
+// The stream, over a state of 66 lent bytes: start, end, then the 64 places.
+use crate::answer::count;
+use crate::answer::pack;
+use crate::answer::refuse;
+use crate::answer::told_call;
+use saved::form::Restored;
+use saved::form::Saved;
+use saved::lent::reset_lent;
+use saved::lent::restore_lent;
+use saved::lent::save_lent;
+use stream::candidate::wide;
+use stream::lent::step_lent;
+ghost use mathlib.Core.Path.{_≡_};
+ghost use Prim.Native.Nat.{_<_};
+ghost use Rattle.saved.specs.Save.{toldBySave, toldByRestore, saveLentOf, restoreLentOf, resetLentOf};
+ghost use Rattle.host.specs.Answer.{packed};
+ghost use Rattle.host.specs.Call.{Calls};
+ghost use Rattle.host.specs.State.{toldState, tells, heldCount};
+
+// One call: the first answer of the held bytes followed by the input.
+#[no_mangle]
+pub extern "C" fn crsf_next_raw_packet(state: &mut [u8], input: &[u8]) -> u64
+    ensures { λ r. ⌜ Calls (now (state .entry)) (now (input .entry)) (now (state .exit)) r ⌝ }
+{
+    pack(told_call(step_lent(state, input)))
+}
+
+fn saved_answer(saved: Saved) -> u64
+    requires { ⌜ toldBySave saved .count < 256 ⌝ }
+    ensures { λ r. ⌜ r ≡ packed (toldState (toldBySave saved)) ⌝ }
+{
+    match saved {
+        Saved::Wrote(n) => count(n),
+        Saved::BufferOverflow => refuse(5),
+        Saved::BadState => refuse(8),
+    }
+}
+
+fn restored_answer(restored: Restored) -> u64
+    requires { ⌜ toldByRestore restored .count < 256 ⌝ }
+    ensures { λ r. ⌜ r ≡ packed (toldState (toldByRestore restored)) ⌝ }
+{
+    match restored {
+        Restored::Held(n) => count(n),
+        Restored::BadState => refuse(8),
+    }
+}
+
+// Forgets the held bytes.
+#[no_mangle]
+pub extern "C" fn crsf_reset(state: &mut [u8]) -> u64
+    ensures { λ r. ⌜ (r, now (state .exit)) ≡ tells (resetLentOf (now (state .entry))) ⌝ }
+{
+    restored_answer(reset_lent(state))
+}
+
+// The saved form of the held bytes, at the front of `out`.
+#[no_mangle]
+pub extern "C" fn crsf_save(state: &[u8], out: &mut [u8]) -> u64
+    ensures { λ r. ⌜ (r, now (out .exit)) ≡ tells (saveLentOf (now (state .entry)) (now (out .entry))) ⌝ }
+{
+    saved_answer(save_lent(state, out))
+}
+
+// The state that holds what a saved form says.
+#[no_mangle]
+pub extern "C" fn crsf_restore(state: &mut [u8], form: &[u8]) -> u64
+    ensures { λ r. ⌜ (r, now (state .exit)) ≡ tells (restoreLentOf (now (form .entry)) (now (state .entry))) ⌝ }
+{
+    restored_answer(restore_lent(state, form))
+}
+
+// How many bytes are held.
+#[no_mangle]
+pub extern "C" fn crsf_held(state: &[u8]) -> u64
+    ensures { λ r. ⌜ r ≡ packed (heldCount (now (state .entry))) ⌝ }
+{
+    if state.len() != 66 {
+        return refuse(8);
+    }
+    let start = wide(state[0]);
+    let end = wide(state[1]);
+    if end < start {
+        return refuse(8);
+    }
+    if 64 < end {
+        return refuse(8);
+    }
+    count(end - start)
+}

@@ -1,0 +1,217 @@
+/*
+ * CRSF frames for a host in C: cut a byte stream into frames, save and restore midway, write and read records.
+ *
+ * Link the archive that `rt staticlib host` writes, target/staticlib/libhost.a. It needs no other library, allocates nothing, keeps nothing
+ * between calls and is for x86-64 Linux.
+ *
+ *     crsf_state state = {0};                                  // holds nothing
+ *     while ((n = read(fd, piece, sizeof piece)) > 0) {
+ *         const uint8_t *rest = piece;
+ *         size_t left = n;
+ *         for (;;) {
+ *             crsf_answer a = crsf_next(&state, rest, left);
+ *             if (a.number == CRSF_MORE) break;                // everything is taken or held: read on
+ *             if (a.number == CRSF_FRAME) {
+ *                 const uint8_t *frame = crsf_frame_bytes(&state, rest, a);   // a.len bytes, until the next call
+ *                 ..
+ *             }                                                // else a refusal, 1 to 3: one byte is dropped, go on
+ *             rest += a.taken;
+ *             left -= a.taken;
+ *         }
+ *     }
+ *
+ * Every function takes any bytes and any lengths: nothing need be tested first. What it promises is proved of its code, for every input. What the
+ * caller owes is what C always asks: a pointer with a length points to so many readable (and for a buffer that is not const, writable) elements; a
+ * buffer that is written overlaps no other argument; no other thread touches the arguments meanwhile. With length 0 a pointer may be NULL.
+ */
+#ifndef CRSF_H
+#define CRSF_H
+
+#include <stdbool.h>
+#include <stddef.h>
+#include <stdint.h>
+
+#ifdef __cplusplus
+extern "C" {
+#endif
+
+/* ---- What every function answers ---------------------------------------------------------------------------------------------------------- */
+
+/* A field that an answer does not speak of is 0. The struct comes back by value, in one register. */
+typedef struct crsf_answer {
+    uint8_t number;   /* CRSF_OK or CRSF_FRAME, 0; CRSF_MORE; or a refusal, 1 to 8 */
+    uint8_t taken;    /* a call of the stream: how many bytes of the input it took, at most 64 */
+    uint8_t in_state; /* of a frame: 1 where its bytes stand in the state, 0 where they stand in the input */
+    uint8_t at;       /* of a frame: where it begins, in the 66 bytes of the state or in the input */
+    uint8_t len;      /* of a frame its bytes; else how many bytes were written or are held, or how many numbers were read */
+    uint8_t first;    /* what a refusal carries, see below; the source id of an RPM record that was read */
+    uint8_t second;   /* CRSF_INVALID_CRC: the carried check byte */
+    uint8_t zero;     /* 0 */
+} crsf_answer;
+
+enum {
+    CRSF_OK = 0,
+    CRSF_FRAME = 0,
+    CRSF_INVALID_SYNC = 1,           /* first: a byte that is no address. It is dropped */
+    CRSF_INVALID_PACKET_LENGTH = 2,  /* first: a length byte that is not 2 to 62. One byte is dropped, the address before it */
+    CRSF_INVALID_CRC = 3,            /* first: the calculated check byte; second: the carried one. One byte is dropped */
+    CRSF_INVALID_PAYLOAD_LENGTH = 4, /* a payload too short for its record; more than 19 RPM values, or none to write; not sixteen channels */
+    CRSF_BUFFER_OVERFLOW = 5,        /* a buffer shorter than what would be written: nothing was */
+    CRSF_CHANNEL_RANGE = 6,          /* first: the index of the first channel above 2047. Nothing was written */
+    CRSF_BAD_ADDRESS = 7,            /* a destination that is no address. Nothing was written */
+    CRSF_BAD_STATE = 8,              /* no state, or no saved form; 64 held bytes at a save. Nothing was changed */
+    CRSF_MORE = 255                  /* no answer yet: all is taken, and more input is asked for */
+};
+
+/* ---- The stream ---------------------------------------------------------------------------------------------------------------------------- */
+
+/* The bytes held between calls: places[start] up to places[end - 1]. All zero is a state that holds nothing. */
+typedef struct crsf_state {
+    uint8_t start;
+    uint8_t end;
+    uint8_t places[64];
+} crsf_state;
+
+enum {
+    CRSF_STATE_SIZE = 66, /* sizeof(crsf_state) */
+    CRSF_FRAME_MAX = 64,  /* the longest frame */
+    CRSF_SAVED_MAX = 64   /* the longest saved form: a count and 63 held bytes */
+};
+
+/* The functions of the archive. A slice is a pointer and then its length; a state of another length than 66 is refused with 8. */
+
+/* The first answer of the held bytes followed by the input. With CRSF_MORE all of the input is taken; with any other answer the bytes from
+ * input + taken on are unread, and the next call goes on there (with no input at all if none is left). */
+crsf_answer crsf_next_raw_packet(uint8_t *state, size_t state_len, const uint8_t *input, size_t input_len);
+
+/* Forgets the held bytes. Unread input then begins a new stream. */
+crsf_answer crsf_reset(uint8_t *state, size_t state_len);
+
+/* Writes the saved form of the held bytes to the front of out; len is its length. */
+crsf_answer crsf_save(const uint8_t *state, size_t state_len, uint8_t *out, size_t out_len);
+
+/* Makes the state hold what a saved form says, whatever it held before; len is how many bytes that is. */
+crsf_answer crsf_restore(uint8_t *state, size_t state_len, const uint8_t *form, size_t form_len);
+
+/* len is how many bytes are held. */
+crsf_answer crsf_held(const uint8_t *state, size_t state_len);
+
+/* ---- Queries ------------------------------------------------------------------------------------------------------------------------------- */
+
+/* Whether a byte is one of the 24 addresses. */
+bool crsf_is_address(uint8_t byte);
+
+enum { CRSF_UNLISTED = 0, CRSF_SHORT = 1, CRSF_EXTENDED = 2 };
+
+/* Whether a packet type is unlisted, or has a short or an extended header. */
+uint8_t crsf_header_of(uint8_t packet_type);
+
+/* The check byte of a type and its payload (CRC-8/DVB-S2). */
+uint8_t crsf_checksum(const uint8_t *bytes, size_t bytes_len);
+
+/* ---- Records ------------------------------------------------------------------------------------------------------------------------------- */
+
+enum {
+    CRSF_TYPE_GPS = 0x02,
+    CRSF_TYPE_GPS_EXTENDED = 0x06,
+    CRSF_TYPE_BATTERY = 0x08,
+    CRSF_TYPE_BARO_ALTITUDE = 0x09,
+    CRSF_TYPE_RPM = 0x0C,
+    CRSF_TYPE_LINK_STATISTICS = 0x14,
+    CRSF_TYPE_RC_CHANNELS_PACKED = 0x16
+};
+
+/* Writers: a whole frame to the front of the buffer, len its bytes; or refusal 7, then 4 or 6, then 5, with the buffer unchanged. A frame never
+ * has more than 64 bytes, and no byte past it is touched. */
+
+crsf_answer crsf_write_link_statistics(uint8_t *buffer, size_t buffer_len, uint8_t dest, uint8_t uplink_rssi_1, uint8_t uplink_rssi_2,
+                                       uint8_t uplink_link_quality, int8_t uplink_snr, uint8_t active_antenna, uint8_t rf_mode,
+                                       uint8_t uplink_tx_power, uint8_t downlink_rssi, uint8_t downlink_link_quality, int8_t downlink_snr);
+
+/* channels_len must be 16 (else 4), and no channel above 2047 (else 6). */
+crsf_answer crsf_write_rc_channels_packed(uint8_t *buffer, size_t buffer_len, uint8_t dest, const uint16_t *channels, size_t channels_len);
+
+/* altitude is metres with 1000 added. */
+crsf_answer crsf_write_gps(uint8_t *buffer, size_t buffer_len, uint8_t dest, int32_t latitude, int32_t longitude, uint16_t groundspeed,
+                           uint16_t heading, uint16_t altitude, uint8_t satellites);
+
+crsf_answer crsf_write_gps_extended(uint8_t *buffer, size_t buffer_len, uint8_t dest, uint8_t fix_type, int16_t n_speed, int16_t e_speed,
+                                    int16_t v_speed, int16_t h_speed_acc, int16_t track_acc, int16_t alt_ellipsoid, int16_t h_acc,
+                                    int16_t v_acc, uint8_t reserved, uint8_t h_dop, uint8_t v_dop);
+
+/* The low 24 bits of capacity_used are written; the id only where it is not 0. */
+crsf_answer crsf_write_battery(uint8_t *buffer, size_t buffer_len, uint8_t dest, int16_t voltage, int16_t current, uint32_t capacity_used,
+                               uint8_t remaining, uint8_t id);
+
+crsf_answer crsf_write_baro_altitude(uint8_t *buffer, size_t buffer_len, uint8_t dest, uint16_t altitude_packed, int8_t vertical_speed_packed);
+
+/* 1 to 19 values (else 4), of each of which the low 24 bits are written. */
+crsf_answer crsf_write_rpm(uint8_t *buffer, size_t buffer_len, uint8_t dest, uint8_t rpm_source_id, const int32_t *rpm_values,
+                           size_t rpm_values_len);
+
+/* Readers: a payload's numbers to the front of out, in the order of the writer's parameters; len is how many. Refusal 4 for a payload that is too
+ * short, then 5 where out is, with out unchanged. Bytes of the payload past the record are ignored. */
+
+enum {
+    CRSF_LINK_STATISTICS_NUMBERS = 10,
+    CRSF_RC_CHANNELS = 16,
+    CRSF_GPS_NUMBERS = 6,
+    CRSF_GPS_EXTENDED_NUMBERS = 12,
+    CRSF_BATTERY_NUMBERS = 5,
+    CRSF_BARO_ALTITUDE_NUMBERS = 2,
+    CRSF_RPM_VALUES_MAX = 19
+};
+
+crsf_answer crsf_read_link_statistics(const uint8_t *payload, size_t payload_len, int32_t *out, size_t out_len);
+crsf_answer crsf_read_rc_channels_packed(const uint8_t *payload, size_t payload_len, uint16_t *out, size_t out_len);
+crsf_answer crsf_read_gps(const uint8_t *payload, size_t payload_len, int32_t *out, size_t out_len);
+crsf_answer crsf_read_gps_extended(const uint8_t *payload, size_t payload_len, int32_t *out, size_t out_len);
+crsf_answer crsf_read_battery(const uint8_t *payload, size_t payload_len, int32_t *out, size_t out_len);
+crsf_answer crsf_read_baro_altitude(const uint8_t *payload, size_t payload_len, int32_t *out, size_t out_len);
+/* The values; first is the source id. A payload of 3 bytes has none. More than 19 are refused with 4. */
+crsf_answer crsf_read_rpm(const uint8_t *payload, size_t payload_len, int32_t *out, size_t out_len);
+
+/* ---- Conveniences -------------------------------------------------------------------------------------------------------------------------- */
+
+static inline crsf_answer crsf_next(crsf_state *state, const uint8_t *input, size_t input_len)
+{
+    return crsf_next_raw_packet((uint8_t *)state, sizeof *state, input, input_len);
+}
+
+static inline crsf_answer crsf_forget(crsf_state *state)
+{
+    return crsf_reset((uint8_t *)state, sizeof *state);
+}
+
+static inline crsf_answer crsf_save_state(const crsf_state *state, uint8_t *out, size_t out_len)
+{
+    return crsf_save((const uint8_t *)state, sizeof *state, out, out_len);
+}
+
+static inline crsf_answer crsf_restore_state(crsf_state *state, const uint8_t *form, size_t form_len)
+{
+    return crsf_restore((uint8_t *)state, sizeof *state, form, form_len);
+}
+
+static inline crsf_answer crsf_held_count(const crsf_state *state)
+{
+    return crsf_held((const uint8_t *)state, sizeof *state);
+}
+
+/* The bytes of a frame, of which there are answer.len: valid until the state or the input changes. Only where answer.number is CRSF_FRAME. */
+static inline const uint8_t *crsf_frame_bytes(const crsf_state *state, const uint8_t *input, crsf_answer answer)
+{
+    return answer.in_state ? (const uint8_t *)state + answer.at : input + answer.at;
+}
+
+/* The parts of a frame of len bytes, 4 to 64. */
+static inline uint8_t crsf_frame_address(const uint8_t *frame) { return frame[0]; }
+static inline uint8_t crsf_frame_type(const uint8_t *frame) { return frame[2]; }
+static inline const uint8_t *crsf_frame_payload(const uint8_t *frame) { return frame + 3; }
+static inline size_t crsf_frame_payload_len(crsf_answer answer) { return (size_t)answer.len - 4; }
+
+#ifdef __cplusplus
+}
+#endif
+
+#endif

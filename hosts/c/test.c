@@ -1,0 +1,287 @@
+/* Every entry of the archive, called from C on known bytes. Prints what it ran, and stops at the first difference. */
+#include "crsf.h"
+
+#include <stdio.h>
+#include <stdlib.h>
+#include <string.h>
+
+static unsigned checks;
+
+#define CHECK(what)                                                                  \
+    do {                                                                             \
+        checks++;                                                                    \
+        if (!(what)) {                                                               \
+            printf("%s:%d: not so: %s\n", __FILE__, __LINE__, #what);                \
+            exit(1);                                                                 \
+        }                                                                            \
+    } while (0)
+
+/* An answer by its eight bytes. */
+static int is(crsf_answer a, uint8_t number, uint8_t taken, uint8_t in_state, uint8_t at, uint8_t len, uint8_t first, uint8_t second)
+{
+    return a.number == number && a.taken == taken && a.in_state == in_state && a.at == at && a.len == len && a.first == first
+        && a.second == second && a.zero == 0;
+}
+
+static int refusal(crsf_answer a, uint8_t number)
+{
+    return is(a, number, 0, 0, 0, 0, 0, 0);
+}
+
+static int count(crsf_answer a, uint8_t len)
+{
+    return is(a, CRSF_OK, 0, 0, 0, len, 0, 0);
+}
+
+/* What a stream says, in the lines of the listing, whatever the pieces. With save_at, the state is saved after so many calls, spoilt and
+ * restored. */
+static void list(const uint8_t *bytes, size_t n, size_t piece, unsigned save_at, char *out)
+{
+    crsf_state state = {0};
+    unsigned calls = 0;
+    char *end = out;
+    for (size_t from = 0; from < n; from += piece) {
+        const uint8_t *rest = bytes + from;
+        size_t left = n - from < piece ? n - from : piece;
+        for (;;) {
+            if (calls++ == save_at) {
+                uint8_t form[CRSF_SAVED_MAX];
+                crsf_answer saved = crsf_save_state(&state, form, sizeof form);
+                CHECK(saved.number == CRSF_OK);
+                memset(&state, 0xEE, sizeof state);
+                CHECK(count(crsf_restore_state(&state, form, saved.len), (uint8_t)(saved.len - 1)));
+            }
+            crsf_answer a = crsf_next(&state, rest, left);
+            CHECK(a.taken <= left);
+            const uint8_t *frame = crsf_frame_bytes(&state, rest, a);
+            if (a.number == CRSF_FRAME)
+                end += sprintf(end, "frame %02X %02X %zu\n", crsf_frame_address(frame), crsf_frame_type(frame), crsf_frame_payload_len(a));
+            else if (a.number == CRSF_INVALID_SYNC)
+                end += sprintf(end, "sync %02X\n", a.first);
+            else if (a.number == CRSF_INVALID_PACKET_LENGTH)
+                end += sprintf(end, "length %02X\n", a.first);
+            else if (a.number == CRSF_INVALID_CRC)
+                end += sprintf(end, "crc %02X %02X\n", a.first, a.second);
+            else
+                CHECK(a.number == CRSF_MORE && a.taken == left);
+            rest += a.taken;
+            left -= a.taken;
+            if (a.number == CRSF_MORE)
+                break;
+        }
+    }
+    crsf_answer held = crsf_held_count(&state);
+    CHECK(held.number == CRSF_OK);
+    sprintf(end, "held %u\n", held.len);
+}
+
+/* The same lines in pieces of any size, and with a save and a restore before any call. */
+static void lists(const uint8_t *bytes, size_t n, const char *lines)
+{
+    char out[4096];
+    for (size_t piece = 1; piece <= n; piece++)
+        for (unsigned save_at = 0; save_at <= 2 * n; save_at++) {
+            list(bytes, n, piece, save_at, out);
+            CHECK(strcmp(out, lines) == 0);
+        }
+}
+
+static void stream(void)
+{
+    lists((const uint8_t[]){0xC8, 2, 0, 0}, 4, "frame C8 00 0\nheld 0\n");
+    lists((const uint8_t[]){0xC8, 2, 0, 0, 0x55, 0xC8, 2, 0}, 8, "frame C8 00 0\nsync 55\nheld 3\n");
+    lists((const uint8_t[]){0xC8, 2, 0, 1}, 4, "crc 00 01\nsync 02\nlength 01\nsync 01\nheld 0\n");
+    lists((const uint8_t[]){0xC8, 1}, 2, "length 01\nsync 01\nheld 0\n");
+    lists((const uint8_t[]){0, 0}, 2, "length 00\nheld 1\n");
+    lists((const uint8_t[]){0xC8, 0x3F}, 2, "length 3F\nsync 3F\nheld 0\n");
+    lists((const uint8_t[]){0xC8, 0x3E}, 2, "held 2\n");
+    lists((const uint8_t[]){0xC8}, 1, "held 1\n");
+}
+
+static void calls(void)
+{
+    crsf_state state = {0};
+    const uint8_t frame[4] = {0xC8, 2, 0, 0};
+    const uint8_t wrong[4] = {0xC8, 2, 0, 1};
+    CHECK(sizeof state == CRSF_STATE_SIZE && sizeof(crsf_answer) == 8);
+    /* in the input; then in the state */
+    CHECK(is(crsf_next(&state, frame, 4), CRSF_FRAME, 4, 0, 0, 4, 0, 0));
+    CHECK(is(crsf_next(&state, frame, 3), CRSF_MORE, 3, 0, 0, 0, 0, 0));
+    crsf_answer a = crsf_next(&state, frame + 3, 1);
+    CHECK(a.number == CRSF_FRAME && a.taken == 1 && a.in_state == 1 && a.len == 4);
+    CHECK(memcmp(crsf_frame_bytes(&state, frame + 3, a), frame, 4) == 0);
+    CHECK(is(crsf_next(&state, wrong, 4), CRSF_INVALID_CRC, 1, 0, 0, 0, 0, 1));
+    CHECK(is(crsf_next(&state, NULL, 0), CRSF_MORE, 0, 0, 0, 0, 0, 0));
+    /* a state of a wrong length, and one that is none, stay as they are */
+    uint8_t bytes[67];
+    for (size_t n = 0; n < sizeof bytes; n++)
+        if (n != CRSF_STATE_SIZE) {
+            memset(bytes, 0x5A, sizeof bytes);
+            CHECK(refusal(crsf_next_raw_packet(bytes, n, frame, 4), CRSF_BAD_STATE));
+            CHECK(refusal(crsf_reset(bytes, n), CRSF_BAD_STATE));
+            CHECK(refusal(crsf_restore(bytes, n, (const uint8_t[]){0}, 1), CRSF_BAD_STATE));
+            CHECK(refusal(crsf_save(bytes, n, bytes, 0), CRSF_BAD_STATE));
+            CHECK(refusal(crsf_held(bytes, n), CRSF_BAD_STATE));
+            for (size_t i = 0; i < sizeof bytes; i++)
+                CHECK(bytes[i] == 0x5A);
+        }
+    for (unsigned start = 0; start < 256; start++)
+        for (unsigned end = 0; end < 256; end++)
+            if (start > end || end > 64) {
+                memset(bytes, 0x5A, sizeof bytes);
+                bytes[0] = (uint8_t)start;
+                bytes[1] = (uint8_t)end;
+                uint8_t before[67], out[64];
+                memcpy(before, bytes, sizeof bytes);
+                CHECK(refusal(crsf_next_raw_packet(bytes, 66, frame, 4), CRSF_BAD_STATE));
+                CHECK(refusal(crsf_save(bytes, 66, out, sizeof out), CRSF_BAD_STATE));
+                CHECK(refusal(crsf_held(bytes, 66), CRSF_BAD_STATE));
+                CHECK(memcmp(before, bytes, sizeof bytes) == 0);
+                CHECK(count(crsf_reset(bytes, 66), 0));
+                CHECK(count(crsf_held(bytes, 66), 0));
+            }
+}
+
+static void saves(void)
+{
+    crsf_state state = {0};
+    uint8_t form[CRSF_SAVED_MAX];
+    const uint8_t waiting[3] = {0xC8, 0x3E, 7};
+    CHECK(count(crsf_save_state(&state, form, 1), 1) && form[0] == 0);
+    CHECK(crsf_next(&state, waiting, 3).number == CRSF_MORE);
+    memset(form, 0xAA, sizeof form);
+    CHECK(refusal(crsf_save_state(&state, form, 3), CRSF_BUFFER_OVERFLOW) && form[0] == 0xAA);
+    CHECK(count(crsf_save_state(&state, form, sizeof form), 4));
+    CHECK(memcmp(form, (const uint8_t[]){3, 0xC8, 0x3E, 7, 0xAA}, 5) == 0);
+    CHECK(refusal(crsf_restore_state(&state, form, 3), CRSF_BAD_STATE));
+    CHECK(refusal(crsf_restore_state(&state, form, 5), CRSF_BAD_STATE));
+    CHECK(refusal(crsf_restore_state(&state, form, 0), CRSF_BAD_STATE));
+    CHECK(refusal(crsf_restore_state(&state, (const uint8_t[]){0x80, 0}, 2), CRSF_BAD_STATE));
+    CHECK(count(crsf_held_count(&state), 3));
+    CHECK(count(crsf_forget(&state), 0) && count(crsf_held_count(&state), 0));
+    CHECK(count(crsf_restore_state(&state, form, 4), 3));
+    /* 64 held bytes are no saved form's */
+    memset(&state, 0, sizeof state);
+    state.end = 64;
+    CHECK(refusal(crsf_save_state(&state, form, sizeof form), CRSF_BAD_STATE));
+    state.start = 1;
+    CHECK(count(crsf_save_state(&state, form, sizeof form), 64) && form[0] == 63);
+}
+
+/* The payload of a frame that was just written: it is read as that frame. */
+static const uint8_t *payload_of(const uint8_t *buffer, size_t size, crsf_answer written, uint8_t type, uint8_t len)
+{
+    crsf_state state = {0};
+    CHECK(count(written, (uint8_t)(len + 4)) && written.len <= size);
+    CHECK(is(crsf_next(&state, buffer, written.len), CRSF_FRAME, written.len, 0, 0, written.len, 0, 0));
+    CHECK(crsf_frame_address(buffer) == 0xC8 && crsf_frame_type(buffer) == type);
+    CHECK(crsf_checksum(buffer + 2, (size_t)written.len - 3) == buffer[written.len - 1]);
+    for (size_t i = written.len; i < size; i++)
+        CHECK(buffer[i] == 0xAA);
+    return crsf_frame_payload(buffer);
+}
+
+#define WRITTEN(type, size, call) (memset(b, 0xAA, sizeof b), payload_of(b, sizeof b, call, type, size))
+#define BYTES(...) ((const uint8_t[]){__VA_ARGS__}), sizeof((const uint8_t[]){__VA_ARGS__})
+#define READS(entry, payload, size, ...)                                                       \
+    do {                                                                                       \
+        const int32_t want[] = {__VA_ARGS__};                                                  \
+        const uint8_t n = sizeof want / sizeof *want;                                          \
+        int32_t got[20];                                                                       \
+        memset(got, 0x77, sizeof got);                                                         \
+        CHECK(refusal(entry(payload, (size)-1, got, 20), CRSF_INVALID_PAYLOAD_LENGTH));        \
+        CHECK(refusal(entry(payload, size, got, n - 1u), CRSF_BUFFER_OVERFLOW));               \
+        CHECK(got[0] == 0x77777777);                                                           \
+        CHECK(count(entry(payload, size, got, n), n));                                         \
+        CHECK(memcmp(got, want, sizeof want) == 0 && got[n] == 0x77777777);                    \
+    } while (0)
+
+static void records(void)
+{
+    uint8_t b[70];
+    const uint8_t *p;
+
+    p = WRITTEN(CRSF_TYPE_LINK_STATISTICS, 10, crsf_write_link_statistics(b, sizeof b, 0xC8, 1, 2, 3, -4, 5, 6, 7, 8, 9, -128));
+    CHECK(memcmp(p, BYTES(1, 2, 3, 0xFC, 5, 6, 7, 8, 9, 0x80)) == 0);
+    READS(crsf_read_link_statistics, p, 10, 1, 2, 3, -4, 5, 6, 7, 8, 9, -128);
+
+    p = WRITTEN(CRSF_TYPE_GPS, 15, crsf_write_gps(b, sizeof b, 0xC8, -2, 0x01020304, 0x0506, 65535, 1000, 9));
+    CHECK(memcmp(p, BYTES(0xFF, 0xFF, 0xFF, 0xFE, 1, 2, 3, 4, 5, 6, 0xFF, 0xFF, 3, 0xE8, 9)) == 0);
+    READS(crsf_read_gps, p, 15, -2, 0x01020304, 0x0506, 65535, 1000, 9);
+
+    p = WRITTEN(CRSF_TYPE_GPS_EXTENDED, 20, crsf_write_gps_extended(b, sizeof b, 0xC8, 3, -1, 2, -3, 4, -5, 6, -7, -32768, 9, 10, 11));
+    CHECK(memcmp(p, BYTES(3, 0xFF, 0xFF, 0, 2, 0xFF, 0xFD, 0, 4, 0xFF, 0xFB, 0, 6, 0xFF, 0xF9, 0x80, 0, 9, 10, 11)) == 0);
+    READS(crsf_read_gps_extended, p, 20, 3, -1, 2, -3, 4, -5, 6, -7, -32768, 9, 10, 11);
+
+    p = WRITTEN(CRSF_TYPE_BATTERY, 8, crsf_write_battery(b, sizeof b, 0xC8, 120, 15, 0x010203, 50, 0));
+    CHECK(memcmp(p, BYTES(0, 0x78, 0, 0x0F, 1, 2, 3, 0x32)) == 0);
+    READS(crsf_read_battery, p, 8, 120, 15, 0x010203, 50, 0);
+    p = WRITTEN(CRSF_TYPE_BATTERY, 9, crsf_write_battery(b, sizeof b, 0xC8, -120, 15, 0xFFFFFFFF, 50, 5));
+    CHECK(memcmp(p, BYTES(0xFF, 0x88, 0, 0x0F, 0xFF, 0xFF, 0xFF, 0x32, 5)) == 0);
+    {
+        int32_t got[5];
+        CHECK(count(crsf_read_battery(p, 9, got, 5), 5) && got[0] == -120 && got[2] == 0xFFFFFF && got[4] == 5);
+    }
+
+    p = WRITTEN(CRSF_TYPE_BARO_ALTITUDE, 3, crsf_write_baro_altitude(b, sizeof b, 0xC8, 0x88E5, -2));
+    CHECK(memcmp(p, BYTES(0x88, 0xE5, 0xFE)) == 0);
+    READS(crsf_read_baro_altitude, p, 3, 0x88E5, -2);
+
+    uint16_t channels[16] = {2047}, back[17];
+    p = WRITTEN(CRSF_TYPE_RC_CHANNELS_PACKED, 22, crsf_write_rc_channels_packed(b, sizeof b, 0xC8, channels, 16));
+    CHECK(p[0] == 0xFF && p[1] == 7 && p[2] == 0 && p[21] == 0);
+    channels[0] = 0;
+    channels[15] = 2047;
+    p = WRITTEN(CRSF_TYPE_RC_CHANNELS_PACKED, 22, crsf_write_rc_channels_packed(b, sizeof b, 0xC8, channels, 16));
+    CHECK(p[0] == 0 && p[19] == 0 && p[20] == 0xE0 && p[21] == 0xFF);
+    memset(back, 0x77, sizeof back);
+    CHECK(refusal(crsf_read_rc_channels_packed(p, 21, back, 17), CRSF_INVALID_PAYLOAD_LENGTH));
+    CHECK(refusal(crsf_read_rc_channels_packed(p, 22, back, 15), CRSF_BUFFER_OVERFLOW) && back[0] == 0x7777);
+    CHECK(count(crsf_read_rc_channels_packed(p, 22, back, 17), 16) && memcmp(back, channels, 32) == 0 && back[16] == 0x7777);
+    channels[9] = 2048;
+    channels[12] = 3000;
+    CHECK(is(crsf_write_rc_channels_packed(b, sizeof b, 0xC8, channels, 16), CRSF_CHANNEL_RANGE, 0, 0, 0, 0, 9, 0));
+    CHECK(refusal(crsf_write_rc_channels_packed(b, sizeof b, 0xC8, channels, 15), CRSF_INVALID_PAYLOAD_LENGTH));
+    CHECK(refusal(crsf_write_rc_channels_packed(b, sizeof b, 0xC9, channels, 15), CRSF_BAD_ADDRESS));
+
+    const int32_t values[20] = {-1, -8388608, 5};
+    int32_t got[20];
+    p = WRITTEN(CRSF_TYPE_RPM, 10, crsf_write_rpm(b, sizeof b, 0xC8, 7, values, 3));
+    CHECK(memcmp(p, BYTES(7, 0xFF, 0xFF, 0xFF, 0x80, 0, 0, 0, 0, 5)) == 0);
+    memset(got, 0x77, sizeof got);
+    CHECK(is(crsf_read_rpm(p, 10, got, 3), CRSF_OK, 0, 0, 0, 3, 7, 0) && memcmp(got, values, 12) == 0 && got[3] == 0x77777777);
+    CHECK(is(crsf_read_rpm(p, 3, got, 0), CRSF_OK, 0, 0, 0, 0, 7, 0));
+    CHECK(refusal(crsf_read_rpm(p, 2, got, 20), CRSF_INVALID_PAYLOAD_LENGTH));
+    CHECK(refusal(crsf_read_rpm(p, 10, got, 2), CRSF_BUFFER_OVERFLOW));
+    CHECK(count(crsf_write_rpm(b, sizeof b, 0xC8, 7, values, 19), 62));
+    CHECK(refusal(crsf_write_rpm(b, sizeof b, 0xC8, 7, values, 20), CRSF_INVALID_PAYLOAD_LENGTH));
+    CHECK(refusal(crsf_write_rpm(b, sizeof b, 0xC8, 7, NULL, 0), CRSF_INVALID_PAYLOAD_LENGTH));
+
+    /* 7 comes before 5, and a refusal writes nothing */
+    memset(b, 0xAA, sizeof b);
+    CHECK(refusal(crsf_write_gps(b, 3, 0xC9, 1, 2, 3, 4, 5, 6), CRSF_BAD_ADDRESS));
+    CHECK(refusal(crsf_write_gps(b, 18, 0xC8, 1, 2, 3, 4, 5, 6), CRSF_BUFFER_OVERFLOW));
+    for (size_t i = 0; i < sizeof b; i++)
+        CHECK(b[i] == 0xAA);
+}
+
+static void queries(void)
+{
+    unsigned addresses = 0;
+    for (unsigned byte = 0; byte < 256; byte++)
+        addresses += crsf_is_address((uint8_t)byte);
+    CHECK(addresses == 24 && crsf_is_address(0xC8) && crsf_is_address(0x97) && !crsf_is_address(0x98));
+    CHECK(crsf_header_of(CRSF_TYPE_GPS) == CRSF_SHORT && crsf_header_of(0x29) == CRSF_EXTENDED && crsf_header_of(0xFF) == CRSF_UNLISTED);
+    CHECK(crsf_checksum((const uint8_t *)"123456789", 9) == 0xBC && crsf_checksum(NULL, 0) == 0);
+}
+
+int main(void)
+{
+    calls();
+    saves();
+    stream();
+    records();
+    queries();
+    printf("C: %u checks of every entry hold\n", checks);
+    return 0;
+}

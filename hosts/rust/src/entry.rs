@@ -1,0 +1,170 @@
+//! The entries of the archive, and an answer taken apart. All `unsafe` of the package is here: each function hands over whole slices, with their own
+//! lengths, and any bytes are welcome there.
+
+/// What an entry answers, in the order of its eight bytes.
+#[derive(Clone, Copy, Debug, PartialEq, Eq)]
+pub struct Answer {
+    pub number: u8,
+    pub taken: usize,
+    pub in_state: bool,
+    pub at: usize,
+    pub len: usize,
+    pub first: u8,
+    pub second: u8,
+}
+
+impl From<u64> for Answer {
+    fn from(answer: u64) -> Self {
+        let [number, taken, in_state, at, len, first, second, _] = answer.to_le_bytes();
+        Answer { number, taken: taken.into(), in_state: in_state != 0, at: at.into(), len: len.into(), first, second }
+    }
+}
+
+mod archive {
+    extern "C" {
+        pub fn crsf_next_raw_packet(state: *mut u8, state_len: usize, input: *const u8, input_len: usize) -> u64;
+        pub fn crsf_reset(state: *mut u8, state_len: usize) -> u64;
+        pub fn crsf_save(state: *const u8, state_len: usize, out: *mut u8, out_len: usize) -> u64;
+        pub fn crsf_restore(state: *mut u8, state_len: usize, form: *const u8, form_len: usize) -> u64;
+        pub fn crsf_held(state: *const u8, state_len: usize) -> u64;
+        pub fn crsf_is_address(byte: u8) -> bool;
+        pub fn crsf_header_of(packet_type: u8) -> u8;
+        pub fn crsf_checksum(bytes: *const u8, bytes_len: usize) -> u8;
+        pub fn crsf_write_link_statistics(
+            buffer: *mut u8,
+            buffer_len: usize,
+            dest: u8,
+            uplink_rssi_1: u8,
+            uplink_rssi_2: u8,
+            uplink_link_quality: u8,
+            uplink_snr: i8,
+            active_antenna: u8,
+            rf_mode: u8,
+            uplink_tx_power: u8,
+            downlink_rssi: u8,
+            downlink_link_quality: u8,
+            downlink_snr: i8,
+        ) -> u64;
+        pub fn crsf_write_rc_channels_packed(buffer: *mut u8, buffer_len: usize, dest: u8, channels: *const u16, channels_len: usize) -> u64;
+        pub fn crsf_write_gps(
+            buffer: *mut u8,
+            buffer_len: usize,
+            dest: u8,
+            latitude: i32,
+            longitude: i32,
+            groundspeed: u16,
+            heading: u16,
+            altitude: u16,
+            satellites: u8,
+        ) -> u64;
+        pub fn crsf_write_gps_extended(
+            buffer: *mut u8,
+            buffer_len: usize,
+            dest: u8,
+            fix_type: u8,
+            n_speed: i16,
+            e_speed: i16,
+            v_speed: i16,
+            h_speed_acc: i16,
+            track_acc: i16,
+            alt_ellipsoid: i16,
+            h_acc: i16,
+            v_acc: i16,
+            reserved: u8,
+            h_dop: u8,
+            v_dop: u8,
+        ) -> u64;
+        pub fn crsf_write_battery(
+            buffer: *mut u8,
+            buffer_len: usize,
+            dest: u8,
+            voltage: i16,
+            current: i16,
+            capacity_used: u32,
+            remaining: u8,
+            id: u8,
+        ) -> u64;
+        pub fn crsf_write_baro_altitude(buffer: *mut u8, buffer_len: usize, dest: u8, altitude_packed: u16, vertical_speed_packed: i8) -> u64;
+        pub fn crsf_write_rpm(buffer: *mut u8, buffer_len: usize, dest: u8, rpm_source_id: u8, rpm_values: *const i32, rpm_values_len: usize) -> u64;
+        pub fn crsf_read_link_statistics(payload: *const u8, payload_len: usize, out: *mut i32, out_len: usize) -> u64;
+        pub fn crsf_read_rc_channels_packed(payload: *const u8, payload_len: usize, out: *mut u16, out_len: usize) -> u64;
+        pub fn crsf_read_gps(payload: *const u8, payload_len: usize, out: *mut i32, out_len: usize) -> u64;
+        pub fn crsf_read_gps_extended(payload: *const u8, payload_len: usize, out: *mut i32, out_len: usize) -> u64;
+        pub fn crsf_read_battery(payload: *const u8, payload_len: usize, out: *mut i32, out_len: usize) -> u64;
+        pub fn crsf_read_baro_altitude(payload: *const u8, payload_len: usize, out: *mut i32, out_len: usize) -> u64;
+        pub fn crsf_read_rpm(payload: *const u8, payload_len: usize, out: *mut i32, out_len: usize) -> u64;
+    }
+}
+
+// SAFETY, of every call below: a slice is passed as its own pointer and length, a `&mut` one overlaps no other argument, and the entries keep nothing.
+
+pub fn next_raw_packet(state: &mut [u8], input: &[u8]) -> Answer {
+    unsafe { archive::crsf_next_raw_packet(state.as_mut_ptr(), state.len(), input.as_ptr(), input.len()) }.into()
+}
+
+pub fn reset(state: &mut [u8]) -> Answer {
+    unsafe { archive::crsf_reset(state.as_mut_ptr(), state.len()) }.into()
+}
+
+pub fn save(state: &[u8], out: &mut [u8]) -> Answer {
+    unsafe { archive::crsf_save(state.as_ptr(), state.len(), out.as_mut_ptr(), out.len()) }.into()
+}
+
+pub fn restore(state: &mut [u8], form: &[u8]) -> Answer {
+    unsafe { archive::crsf_restore(state.as_mut_ptr(), state.len(), form.as_ptr(), form.len()) }.into()
+}
+
+pub fn held(state: &[u8]) -> Answer {
+    unsafe { archive::crsf_held(state.as_ptr(), state.len()) }.into()
+}
+
+pub fn is_address(byte: u8) -> bool {
+    unsafe { archive::crsf_is_address(byte) }
+}
+
+pub fn header_of(packet_type: u8) -> u8 {
+    unsafe { archive::crsf_header_of(packet_type) }
+}
+
+pub fn checksum(bytes: &[u8]) -> u8 {
+    unsafe { archive::crsf_checksum(bytes.as_ptr(), bytes.len()) }
+}
+
+/// A writer's wrapper: the buffer, the address, and then the record's numbers and slices.
+macro_rules! writer {
+    ($name:ident = $entry:ident($($number:ident: $type:ty),* $(; $slice:ident: $item:ty)?)) => {
+        #[allow(clippy::too_many_arguments)]
+        pub fn $name(buffer: &mut [u8], dest: u8 $(, $number: $type)* $(, $slice: &[$item])?) -> Answer {
+            unsafe { archive::$entry(buffer.as_mut_ptr(), buffer.len(), dest $(, $number)* $(, $slice.as_ptr(), $slice.len())?) }.into()
+        }
+    };
+}
+
+writer!(write_link_statistics = crsf_write_link_statistics(
+    uplink_rssi_1: u8, uplink_rssi_2: u8, uplink_link_quality: u8, uplink_snr: i8, active_antenna: u8, rf_mode: u8, uplink_tx_power: u8,
+    downlink_rssi: u8, downlink_link_quality: u8, downlink_snr: i8));
+writer!(write_rc_channels_packed = crsf_write_rc_channels_packed(; channels: u16));
+writer!(write_gps = crsf_write_gps(latitude: i32, longitude: i32, groundspeed: u16, heading: u16, altitude: u16, satellites: u8));
+writer!(write_gps_extended = crsf_write_gps_extended(
+    fix_type: u8, n_speed: i16, e_speed: i16, v_speed: i16, h_speed_acc: i16, track_acc: i16, alt_ellipsoid: i16, h_acc: i16, v_acc: i16,
+    reserved: u8, h_dop: u8, v_dop: u8));
+writer!(write_battery = crsf_write_battery(voltage: i16, current: i16, capacity_used: u32, remaining: u8, id: u8));
+writer!(write_baro_altitude = crsf_write_baro_altitude(altitude_packed: u16, vertical_speed_packed: i8));
+writer!(write_rpm = crsf_write_rpm(rpm_source_id: u8; rpm_values: i32));
+
+/// A reader's wrapper.
+macro_rules! reader {
+    ($name:ident = $entry:ident($item:ty)) => {
+        pub fn $name(payload: &[u8], out: &mut [$item]) -> Answer {
+            unsafe { archive::$entry(payload.as_ptr(), payload.len(), out.as_mut_ptr(), out.len()) }.into()
+        }
+    };
+}
+
+reader!(read_link_statistics = crsf_read_link_statistics(i32));
+reader!(read_rc_channels_packed = crsf_read_rc_channels_packed(u16));
+reader!(read_gps = crsf_read_gps(i32));
+reader!(read_gps_extended = crsf_read_gps_extended(i32));
+reader!(read_battery = crsf_read_battery(i32));
+reader!(read_baro_altitude = crsf_read_baro_altitude(i32));
+reader!(read_rpm = crsf_read_rpm(i32));

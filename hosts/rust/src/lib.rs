@@ -1,0 +1,40 @@
+//! CRSF frames for a host in Rust, over the entries of the archive that `rt staticlib host` writes. What those promise is proved of their code, for
+//! every input; this package only puts them into Rust's own words.
+//!
+//! The archive is looked for in the folder that `CRSF_ARCHIVE_DIR` names, else in the repository's `target/staticlib`.
+#![deny(missing_debug_implementations)]
+
+mod entry;
+mod error;
+mod packets;
+mod parser;
+
+pub use error::{CrsfParsingError, CrsfStreamError};
+pub use packets::{write_packet_to_buffer, BaroAltitude, Battery, CrsfPacket, Gps, GpsExtended, LinkStatistics, RcChannelsPacked, Rpm};
+pub use parser::{CrsfParser, RawCrsfPacket, SavedParser};
+
+/// How a packet type's header is made.
+#[derive(Clone, Copy, Debug, PartialEq, Eq)]
+pub enum Header {
+    Unlisted,
+    Short,
+    Extended,
+}
+
+/// Whether a byte is one of the 24 addresses.
+pub fn is_address(byte: u8) -> bool {
+    entry::is_address(byte)
+}
+
+pub fn header_of(packet_type: u8) -> Header {
+    match entry::header_of(packet_type) {
+        1 => Header::Short,
+        2 => Header::Extended,
+        _ => Header::Unlisted,
+    }
+}
+
+/// The check byte of a type and its payload.
+pub fn checksum(bytes: &[u8]) -> u8 {
+    entry::checksum(bytes)
+}

@@ -1,0 +1,246 @@
+//! Document 01's cases, cuts, saves and restores midway, hostile states, and the records, through the wrappers.
+use crsf_host::*;
+
+/// What a stream says, in the listing's lines, in pieces of so many bytes; with a save and a restore before the call of that number.
+fn lines(bytes: &[u8], piece: usize, save_at: usize) -> Vec<String> {
+    let mut parser = CrsfParser::new();
+    let (mut out, mut calls) = (Vec::new(), 0);
+    for mut input in bytes.chunks(piece) {
+        loop {
+            if calls == save_at {
+                let saved = parser.save().unwrap();
+                parser = CrsfParser::from_state([0xEE; 66]);
+                assert_eq!(parser.next_raw_packet(&mut &[0xC8][..]), Some(Err(CrsfStreamError::BadState)));
+                parser = CrsfParser::restore(saved.as_ref()).unwrap();
+            }
+            calls += 1;
+            match parser.next_raw_packet(&mut input) {
+                None => break,
+                Some(Ok(frame)) => out.push(format!("frame {:02X} {:02X} {}", frame.dst_addr(), frame.raw_packet_type(), frame.payload().len())),
+                Some(Err(CrsfStreamError::InvalidSync(byte))) => out.push(format!("sync {byte:02X}")),
+                Some(Err(CrsfStreamError::InvalidPacketLength(length))) => out.push(format!("length {length:02X}")),
+                Some(Err(CrsfStreamError::InvalidCrc { calculated, carried })) => out.push(format!("crc {calculated:02X} {carried:02X}")),
+                Some(Err(CrsfStreamError::BadState)) => panic!("the parser's own state is refused"),
+            }
+        }
+        assert!(input.is_empty());
+    }
+    out.push(format!("held {}", parser.held().unwrap()));
+    out
+}
+
+const CASES: [(&[u8], &[&str]); 8] = [
+    (&[0xC8, 2, 0, 0], &["frame C8 00 0", "held 0"]),
+    (&[0xC8, 2, 0, 0, 0x55, 0xC8, 2, 0], &["frame C8 00 0", "sync 55", "held 3"]),
+    (&[0xC8, 2, 0, 1], &["crc 00 01", "sync 02", "length 01", "sync 01", "held 0"]),
+    (&[0xC8, 1], &["length 01", "sync 01", "held 0"]),
+    (&[0, 0], &["length 00", "held 1"]),
+    (&[0xC8, 0x3F], &["length 3F", "sync 3F", "held 0"]),
+    (&[0xC8, 0x3E], &["held 2"]),
+    (&[0xC8], &["held 1"]),
+];
+
+#[test]
+fn cases_in_any_pieces_with_a_save_anywhere() {
+    for (bytes, expected) in CASES {
+        for piece in 1..=bytes.len() {
+            for save_at in 0..=2 * bytes.len() {
+                assert_eq!(lines(bytes, piece, save_at), expected, "{bytes:02X?} in pieces of {piece}, saved at {save_at}");
+            }
+        }
+    }
+}
+
+/// Bytes that are no better than noise, the same each time.
+fn noise(count: usize, mut seed: u64) -> Vec<u8> {
+    (0..count)
+        .map(|_| {
+            seed = seed.wrapping_mul(6364136223846793005).wrapping_add(1442695040888963407);
+            (seed >> 56) as u8
+        })
+        .collect()
+}
+
+/// Frames of every record, with noise between them.
+fn stream() -> Vec<u8> {
+    let mut bytes = Vec::new();
+    let mut buffer = [0; 64];
+    for round in 0..8u8 {
+        let channels = RcChannelsPacked(std::array::from_fn(|i| (i as u16 * 131 + u16::from(round)) % 2048));
+        let gps = Gps { latitude: -i32::from(round), longitude: 7, groundspeed: 1, heading: 2, altitude: 1000, satellites: round };
+        let rpm = Rpm::new(round, &[-1, 8388607, -8388608]).unwrap();
+        let n = channels.write_packet_to_buffer(&mut buffer, 0xC8).unwrap();
+        bytes.extend(&buffer[..n]);
+        bytes.extend(noise(usize::from(round) * 5, round.into()));
+        let n = gps.write_packet_to_buffer(&mut buffer, 0xEA).unwrap();
+        bytes.extend(&buffer[..n - usize::from(round % 2)]);
+        let n = rpm.write_packet_to_buffer(&mut buffer, 0xC8).unwrap();
+        bytes.extend(&buffer[..n]);
+    }
+    bytes
+}
+
+#[test]
+fn no_answer_is_lost_or_repeated() {
+    let bytes = stream();
+    let whole = lines(&bytes, bytes.len(), usize::MAX);
+    assert!(whole.iter().filter(|line| line.starts_with("frame")).count() > 15);
+    for piece in [1, 2, 3, 5, 7, 16, 63, 64, 65, 200] {
+        assert_eq!(lines(&bytes, piece, usize::MAX), whole);
+        for save_at in (0..bytes.len()).step_by(13) {
+            assert_eq!(lines(&bytes, piece, save_at), whole, "in pieces of {piece}, saved at {save_at}");
+        }
+    }
+}
+
+#[test]
+fn a_frame_is_lent_whole() {
+    let mut parser = CrsfParser::new();
+    let mut buffer = [0; 64];
+    let packet = Battery { voltage: 120, current: 15, capacity_used: 0x010203, remaining: 50, id: 5 };
+    let n = packet.write_packet_to_buffer(&mut buffer, 0xC8).unwrap();
+    let mut input = &buffer[..n];
+    assert_eq!(parser.next_raw_packet(&mut input).unwrap().unwrap().as_bytes(), &buffer[..n]);
+    for cut in 1..n {
+        let mut input = &buffer[..cut];
+        assert_eq!(parser.next_raw_packet(&mut input), None);
+        let mut input = &buffer[cut..n];
+        let frame = parser.next_raw_packet(&mut input).unwrap().unwrap();
+        assert_eq!(frame.as_bytes(), &buffer[..n]);
+        assert_eq!((frame.dst_addr(), frame.raw_packet_type(), frame.crc()), (0xC8, Battery::PACKET_TYPE, buffer[n - 1]));
+        assert_eq!(Battery::from_bytes(frame.payload()), Ok(packet));
+        assert_eq!(RawCrsfPacket::new(&buffer[..n]), Some(frame));
+        assert!(input.is_empty());
+    }
+    assert_eq!(RawCrsfPacket::new(&[0xC8, 2, 0]), None);
+}
+
+#[test]
+fn hostile_states_are_refused_and_kept() {
+    for start in 0..=255u8 {
+        for end in 0..=255u8 {
+            let mut state = [0x5A; 66];
+            (state[0], state[1]) = (start, end);
+            let mut parser = CrsfParser::from_state(state);
+            let good = start <= end && end <= 64;
+            assert_eq!(parser.held().is_ok(), good);
+            assert_eq!(parser.save().is_ok(), good && end - start < 64);
+            let bytes = [0xC8, 2, 0, 0];
+            let mut input = &bytes[..];
+            let refused = parser.next_raw_packet(&mut input) == Some(Err(CrsfStreamError::BadState));
+            assert_eq!(refused, !good);
+            if !good {
+                assert_eq!((input, parser.state()), (&bytes[..], &state));
+            }
+            parser.reset();
+            assert_eq!(parser.held(), Ok(0));
+        }
+    }
+}
+
+#[test]
+fn malformed_forms_are_refused() {
+    for form in [&[][..], &[1], &[0, 0], &[2, 7], &[64; 65], &[0x80, 0], &[63; 63]] {
+        assert_eq!(CrsfParser::restore(form), Err(CrsfStreamError::BadState), "{form:02X?}");
+    }
+    for count in 0..64usize {
+        let mut form = vec![0xC8; count + 1];
+        form[0] = count as u8;
+        let parser = CrsfParser::restore(&form).unwrap();
+        assert_eq!(parser.held(), Ok(count));
+        assert_eq!(parser.save().unwrap().as_ref(), form);
+    }
+}
+
+/// Written, read back through a parser, and every shorter buffer refused.
+fn comes_back<P: CrsfPacket + PartialEq + std::fmt::Debug>(packet: P, payload: &[u8]) {
+    let mut buffer = [0xAA; 70];
+    let n = write_packet_to_buffer(&mut buffer, 0xC8, &packet).unwrap();
+    assert_eq!(buffer[n..], [0xAA; 70][n..]);
+    let mut parser = CrsfParser::new();
+    let mut input = &buffer[..n];
+    let frame = parser.next_raw_packet(&mut input).unwrap().unwrap();
+    assert_eq!((frame.dst_addr(), frame.raw_packet_type(), frame.payload()), (0xC8, P::PACKET_TYPE, payload));
+    assert_eq!(frame.crc(), checksum(&frame.as_bytes()[2..n - 1]));
+    assert_eq!(P::from_bytes(frame.payload()).as_ref(), Ok(&packet));
+    for short in 0..n {
+        let mut buffer = [0xAA; 70];
+        assert_eq!(packet.write_packet_to_buffer(&mut buffer[..short], 0xC8), Err(CrsfParsingError::BufferOverflow));
+        assert_eq!(packet.write_packet_to_buffer(&mut buffer[..short], 0xC9), Err(CrsfParsingError::BadAddress));
+        assert_eq!(buffer, [0xAA; 70]);
+    }
+}
+
+#[test]
+fn records_come_back() {
+    comes_back(
+        LinkStatistics {
+            uplink_rssi_1: 1,
+            uplink_rssi_2: 2,
+            uplink_link_quality: 3,
+            uplink_snr: -4,
+            active_antenna: 5,
+            rf_mode: 6,
+            uplink_tx_power: 7,
+            downlink_rssi: 8,
+            downlink_link_quality: 9,
+            downlink_snr: -128,
+        },
+        &[1, 2, 3, 0xFC, 5, 6, 7, 8, 9, 0x80],
+    );
+    comes_back(
+        Gps { latitude: -2, longitude: i32::MIN, groundspeed: 0x0506, heading: 65535, altitude: 1000, satellites: 255 },
+        &[0xFF, 0xFF, 0xFF, 0xFE, 0x80, 0, 0, 0, 5, 6, 0xFF, 0xFF, 3, 0xE8, 255],
+    );
+    comes_back(
+        GpsExtended {
+            fix_type: 3,
+            n_speed: -1,
+            e_speed: 2,
+            v_speed: -3,
+            h_speed_acc: 4,
+            track_acc: -5,
+            alt_ellipsoid: 6,
+            h_acc: -7,
+            v_acc: i16::MIN,
+            reserved: 9,
+            h_dop: 10,
+            v_dop: 11,
+        },
+        &[3, 0xFF, 0xFF, 0, 2, 0xFF, 0xFD, 0, 4, 0xFF, 0xFB, 0, 6, 0xFF, 0xF9, 0x80, 0, 9, 10, 11],
+    );
+    comes_back(Battery { voltage: 120, current: 15, capacity_used: 0x010203, remaining: 50, id: 0 }, &[0, 0x78, 0, 0x0F, 1, 2, 3, 0x32]);
+    comes_back(Battery { voltage: 120, current: 15, capacity_used: 0x010203, remaining: 50, id: 5 }, &[0, 0x78, 0, 0x0F, 1, 2, 3, 0x32, 5]);
+    comes_back(BaroAltitude { altitude_packed: 0x88E5, vertical_speed_packed: -2 }, &[0x88, 0xE5, 0xFE]);
+    comes_back(Rpm::new(7, &[-1, -8388608]).unwrap(), &[7, 0xFF, 0xFF, 0xFF, 0x80, 0, 0]);
+    let mut channels = [0; 16];
+    channels[15] = 2047;
+    let mut payload = [0; 22];
+    (payload[20], payload[21]) = (0xE0, 0xFF);
+    comes_back(RcChannelsPacked(channels), &payload);
+}
+
+#[test]
+fn refusals_in_their_order() {
+    let mut buffer = [0; 64];
+    let mut channels = [0; 16];
+    (channels[9], channels[12]) = (2048, 65535);
+    let packet = RcChannelsPacked(channels);
+    assert_eq!(packet.write_packet_to_buffer(&mut buffer, 0xC9), Err(CrsfParsingError::BadAddress));
+    assert_eq!(packet.write_packet_to_buffer(&mut buffer[..3], 0xC8), Err(CrsfParsingError::ChannelRange(9)));
+    assert_eq!(Rpm::new(0, &[]), Err(CrsfParsingError::InvalidPayloadLength));
+    assert_eq!(Rpm::new(0, &[0; 20]), Err(CrsfParsingError::InvalidPayloadLength));
+    assert_eq!(Rpm::from_bytes(&[7, 1]), Err(CrsfParsingError::InvalidPayloadLength));
+    let none = Rpm::from_bytes(&[7, 1, 2]).unwrap();
+    assert_eq!((none.rpm_source_id, none.rpm_values()), (7, &[][..]));
+    assert_eq!(Gps::from_bytes(&[0; 14]), Err(CrsfParsingError::InvalidPayloadLength));
+    assert_eq!(Battery::from_bytes(&[0; 7]), Err(CrsfParsingError::InvalidPayloadLength));
+    assert!(Gps::from_bytes(&[0; 40]).is_ok());
+}
+
+#[test]
+fn queries() {
+    assert_eq!((0..=255u8).filter(|&byte| is_address(byte)).count(), 24);
+    assert_eq!([header_of(0x02), header_of(0x29), header_of(0xFF)], [Header::Short, Header::Extended, Header::Unlisted]);
+    assert_eq!(checksum(b"123456789"), 0xBC);
+}
