@@ -17,7 +17,7 @@ use Rattle.base.proofs.Parts.{length-part, bytes-part}
 use Rattle.base.proofs.Tests.{by-test}
 use Rattle.numbers.specs.BigEndian.{beOf}
 use Rattle.numbers.proofs.BigEndian.{beOf-lt}
-use Rattle.records.specs.Answer.{Answer}
+use Rattle.fields.specs.Answer.{Answer}
 use Rattle.records.specs.Battery.{batteryValues, batteryRead}
 use Rattle.records.specs.declared.battery.Battery.{Battery}
 use Rattle.layout.specs.declared.ReadAnswer.{ReadAnswer}

@@ -8,7 +8,7 @@ use lib.ListN.{length, take, drop}
 use Rattle.base.specs.Choice.{if_then_else_}
 use Rattle.layout.specs.declared.ReadAnswer.{ReadAnswer}
 use Rattle.layout.specs.declared.ReadAnswer.the-variants.{Record, InvalidPayloadLength}
-use Rattle.records.specs.Answer.{Answer}
+use Rattle.fields.specs.Answer.{Answer}
 use Rattle.channels.specs.declared.ChannelsRead.{ChannelsRead}
 use Rattle.rpm.specs.declared.RpmRead.{RpmRead}
 use Rattle.host.specs.declared.answer.Told.{Told}

@@ -4,7 +4,7 @@ use mathlib.Core.List.{List}
 use Prim.Native.Nat.{ℕ}
 use lib.IntN.{ℤ}
 use lib.ListN.{take}
-use Rattle.records.specs.GpsExtended.{gpsExtendedValues, gpsExtendedAnswer}
+use Rattle.positions.specs.GpsExtended.{gpsExtendedValues, gpsExtendedAnswer}
 use Rattle.host.specs.declared.answer.Told.{Told}
 use Rattle.host.specs.Read.{given}
 use Rattle.host.proofs.Given.{fixed-given, fixed-refused}

@@ -5,7 +5,7 @@ use lib.Dec.{lit≤}
 use mir.Syntax.{w16, w32}
 use mir.Val.{SFits}
 use mir.ValLaws.{toZ-pos}
-use Rattle.records.specs.GpsExtended.{gpsExtendedValues}
+use Rattle.positions.specs.GpsExtended.{gpsExtendedValues}
 use Rattle.host.proofs.Wide.{signed-fits, signed-same}
 use borrow.Author.Needs.{needs}
 use Rattle.host.proofs.read.gps_extended_values.Statement.{statement}

@@ -5,7 +5,7 @@ use lib.Dec.{lit≤}
 use mir.Syntax.{w32}
 use mir.Val.{SFits}
 use mir.ValLaws.{toZ-ofZ, toZ-pos}
-use Rattle.records.specs.Gps.{gpsValues}
+use Rattle.positions.specs.Gps.{gpsValues}
 use borrow.Author.Needs.{needs}
 use Rattle.host.proofs.read.gps_values.Statement.{statement}
 use Rattle.host.proofs.read.gps_values.Tie as tie
