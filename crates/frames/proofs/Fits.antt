@@ -18,16 +18,17 @@ use Rattle.rpm.proofs.RunLaws as runs
 use Rattle.rpm.proofs.RpmLaws.{rpm-image, rpm-at-most}
 use Rattle.layout.specs.Layout.{recordBytes}
 use Rattle.records.specs.LinkStatistics.{linkStatisticsImage}
-use Rattle.records.specs.Gps.{gpsImage}
-use Rattle.records.specs.GpsExtended.{gpsExtendedImage}
+use Rattle.positions.specs.Gps.{gpsImage}
+use Rattle.positions.specs.GpsExtended.{gpsExtendedImage}
 use Rattle.records.specs.Battery.{batteryFields, batteryValues, batteryImage}
 use Rattle.records.specs.BaroAltitude.{baroAltitudeImage}
 use Rattle.records.specs.declared.link_statistics.LinkStatistics.{LinkStatistics}
-use Rattle.records.specs.declared.gps.Gps.{Gps}
-use Rattle.records.specs.declared.gps_extended.GpsExtended.{GpsExtended}
+use Rattle.positions.specs.declared.gps.Gps.{Gps}
+use Rattle.positions.specs.declared.gps_extended.GpsExtended.{GpsExtended}
 use Rattle.records.specs.declared.battery.Battery.{Battery}
 use Rattle.records.specs.declared.baro_altitude.BaroAltitude.{BaroAltitude}
-use Rattle.records.proofs.Laws.{link-statistics-long, gps-long, gps-extended-long, baro-altitude-long}
+use Rattle.positions.proofs.Laws.{gps-long, gps-extended-long}
+use Rattle.records.proofs.Laws.{link-statistics-long, baro-altitude-long}
 use Rattle.records.proofs.BatteryLaws.{battery-long}
 use Rattle.frames.specs.Frames.{Small}
 

@@ -17,11 +17,11 @@ use Rattle.base.proofs.Tests.{by-test}
 use Rattle.layout.specs.Layout.{HoldsAll, readFrom, readAs, recordBytes}
 use Rattle.layout.specs.Writing.{bytes}
 use Rattle.layout.proofs.Fields.{length-recordBytes, readAs-written, written-payload}
-use Rattle.records.specs.Answer.{Answer, read, tooShort}
+use Rattle.fields.specs.Answer.{Answer, read, tooShort}
 use Rattle.records.specs.Battery.{batteryLayout, batteryFields, batteryValues, batteryAnswer, batteryRead, batteryImage}
 use Rattle.records.specs.declared.battery.Battery.{Battery}
 use Rattle.records.specs.declared.battery.BatteryRead.the-variants.{Record}
-use Rattle.records.proofs.Laws.{written-back}
+use Rattle.fields.proofs.Laws.{written-back}
 
 pub battery-long : (x : Battery) → length (recordBytes (batteryFields (x .id)) (batteryValues x)) ≡ (if eqb (x .id) 0 then 8 else 9)
 unfolding batteryValues

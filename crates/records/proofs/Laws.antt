@@ -1,68 +1,23 @@
 -- Document 01, "Record layouts": reading after writing gives the record back, and writing after reading the payload. Both are the laws of every
 -- layout. `HoldsAll` says that each number is in the range of its field: the types of the struct's fields have just these ranges.
 -- Assumes nothing.
-use Prim.Native.Nat.{ℕ, _≤_}
+use Prim.Native.Nat.{ℕ}
 use mathlib.Core.List.{List, _++_}
-use mathlib.Core.Path.{_≡_, sym, ap, _∙_}
-use native.Mathlib.Omega.{arith}
-use borrow.Author.Tests.{le-leb}
+use mathlib.Core.Path.{_≡_, sym, ap}
 use lib.Dec.{lit≤}
-use lib.IntN.{ℤ}
 use lib.ListN.{length}
 use Rattle.base.specs.Bytes.{Bytes}
-use Rattle.layout.specs.Layout.{Field, sizeOf, HoldsAll, readFrom, recordBytes}
+use Rattle.layout.specs.Layout.{HoldsAll, recordBytes}
 use Rattle.layout.specs.Writing.{bytes}
-use Rattle.layout.proofs.Fields.{length-recordBytes, readAs-written, written-payload}
-use Rattle.records.specs.Answer.{Answer, read, tooShort, readOf}
-use Rattle.records.specs.Gps.{gpsLayout, gpsValues, gpsAnswer, gpsRead, gpsImage}
-use Rattle.records.specs.GpsExtended.{gpsExtendedLayout, gpsExtendedValues, gpsExtendedAnswer, gpsExtendedRead, gpsExtendedImage}
+use Rattle.layout.proofs.Fields.{length-recordBytes, readAs-written}
+use Rattle.fields.specs.Answer.{read, tooShort}
+use Rattle.fields.proofs.Laws.{written-back}
 use Rattle.records.specs.LinkStatistics.{linkStatisticsLayout, linkStatisticsValues, linkStatisticsAnswer, linkStatisticsRead, linkStatisticsImage}
 use Rattle.records.specs.BaroAltitude.{baroAltitudeLayout, baroAltitudeValues, baroAltitudeAnswer, baroAltitudeRead, baroAltitudeImage}
-use Rattle.records.specs.declared.gps.Gps.{Gps}
-use Rattle.records.specs.declared.gps.GpsRead as gpsRead
-use Rattle.records.specs.declared.gps_extended.GpsExtended.{GpsExtended}
-use Rattle.records.specs.declared.gps_extended.GpsExtendedRead as gpsExtendedRead
 use Rattle.records.specs.declared.link_statistics.LinkStatistics.{LinkStatistics}
 use Rattle.records.specs.declared.link_statistics.LinkStatisticsRead as linkStatisticsRead
 use Rattle.records.specs.declared.baro_altitude.BaroAltitude.{BaroAltitude}
 use Rattle.records.specs.declared.baro_altitude.BaroAltitudeRead as baroAltitudeRead
-
--- the numbers of a payload of exactly the layout's length are written as that payload
-pub written-back :
-    (fs : List Field) (vs : List ℤ) (payload : List ℕ) → Bytes payload → length payload ≡ sizeOf fs → read vs ≡ readOf fs payload
-    → recordBytes fs vs ≡ payload
-written-back fs vs payload b e r =
-    let enough : sizeOf fs ≤ length payload = omega arith in
-    let same : read vs ≡ read (readFrom fs 0 payload) = simp (le-leb _ _ enough) at r in
-    ap (λ (a : Answer). recordBytes fs (a .1)) same ∙ written-payload fs payload b e
-
--- ---- gps
-
-pub gps-long : (x : Gps) → length (recordBytes gpsLayout (gpsValues x)) ≡ 15
-unfolding gpsValues
-gps-long x = length-recordBytes gpsLayout (gpsValues x) (lit≤ tt)
-
-pub gps-read-written : (x : Gps) (after : List ℕ) → HoldsAll gpsLayout (gpsValues x) → gpsAnswer (gpsRead.the-variants.Record x) ≡ gpsRead (recordBytes gpsLayout (gpsValues x) ++ after)
-unfolding gpsAnswer
-gps-read-written x after h = sym (readAs-written gpsLayout read tooShort (gpsValues x) after h)
-
-pub gps-written-read : (x : Gps) (payload : List ℕ) → Bytes payload → length payload ≡ 15 → gpsAnswer (gpsRead.the-variants.Record x) ≡ gpsRead payload → gpsImage x ≡ bytes payload
-unfolding gpsAnswer
-gps-written-read x payload b e r = ap bytes (written-back gpsLayout (gpsValues x) payload b e r)
-
--- ---- gps extended
-
-pub gps-extended-long : (x : GpsExtended) → length (recordBytes gpsExtendedLayout (gpsExtendedValues x)) ≡ 20
-unfolding gpsExtendedValues
-gps-extended-long x = length-recordBytes gpsExtendedLayout (gpsExtendedValues x) (lit≤ tt)
-
-pub gps-extended-read-written : (x : GpsExtended) (after : List ℕ) → HoldsAll gpsExtendedLayout (gpsExtendedValues x) → gpsExtendedAnswer (gpsExtendedRead.the-variants.Record x) ≡ gpsExtendedRead (recordBytes gpsExtendedLayout (gpsExtendedValues x) ++ after)
-unfolding gpsExtendedAnswer
-gps-extended-read-written x after h = sym (readAs-written gpsExtendedLayout read tooShort (gpsExtendedValues x) after h)
-
-pub gps-extended-written-read : (x : GpsExtended) (payload : List ℕ) → Bytes payload → length payload ≡ 20 → gpsExtendedAnswer (gpsExtendedRead.the-variants.Record x) ≡ gpsExtendedRead payload → gpsExtendedImage x ≡ bytes payload
-unfolding gpsExtendedAnswer
-gps-extended-written-read x payload b e r = ap bytes (written-back gpsExtendedLayout (gpsExtendedValues x) payload b e r)
 
 -- ---- link statistics
 

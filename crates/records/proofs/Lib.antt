@@ -1,6 +1,3 @@
-pub mod Carried
-pub mod Writers
-pub mod Readers
 pub mod Edges
 pub mod Told
 pub mod Laws

@@ -6,23 +6,12 @@ use denote.Ref.{now}
 use lib.IntN.{ℤ}
 use Rattle.base.proofs.Unique.{OneAnswer, same}
 use Rattle.layout.specs.declared.Written.{Written}
-use Rattle.records.specs.declared.gps.Gps.{Gps}
-use Rattle.records.specs.declared.gps.GpsRead.{GpsRead}
-use Rattle.records.specs.declared.gps_extended.GpsExtended.{GpsExtended}
-use Rattle.records.specs.declared.gps_extended.GpsExtendedRead.{GpsExtendedRead}
 use Rattle.records.specs.declared.link_statistics.LinkStatistics.{LinkStatistics}
 use Rattle.records.specs.declared.link_statistics.LinkStatisticsRead.{LinkStatisticsRead}
 use Rattle.records.specs.declared.baro_altitude.BaroAltitude.{BaroAltitude}
 use Rattle.records.specs.declared.baro_altitude.BaroAltitudeRead.{BaroAltitudeRead}
 use Rattle.records.specs.declared.battery.Battery.{Battery}
 use Rattle.records.specs.declared.battery.BatteryRead.{BatteryRead}
-use Rattle.records.proofs.gps.Gps.new.Reads as gps-new
-use Rattle.records.proofs.gps.Gps.from_bytes.Reads as gps-from-bytes
-use Rattle.records.proofs.gps.Gps.to_bytes.Reads as gps-to-bytes
-use Rattle.records.proofs.gps.Gps.get_altitude_m.Reads as gps-get-altitude-m
-use Rattle.records.proofs.gps_extended.GpsExtended.new.Reads as gps-extended-new
-use Rattle.records.proofs.gps_extended.GpsExtended.from_bytes.Reads as gps-extended-from-bytes
-use Rattle.records.proofs.gps_extended.GpsExtended.to_bytes.Reads as gps-extended-to-bytes
 use Rattle.records.proofs.link_statistics.LinkStatistics.new.Reads as link-statistics-new
 use Rattle.records.proofs.link_statistics.LinkStatistics.from_bytes.Reads as link-statistics-from-bytes
 use Rattle.records.proofs.link_statistics.LinkStatistics.to_bytes.Reads as link-statistics-to-bytes
@@ -34,28 +23,7 @@ use Rattle.records.proofs.baro_altitude.BaroAltitude.get_altitude_packe
 use Rattle.records.proofs.battery.Battery.new.Reads as battery-new
 use Rattle.records.proofs.battery.Battery.from_bytes.Reads as battery-from-bytes
 use Rattle.records.proofs.battery.Battery.to_bytes.Reads as battery-to-bytes
-use Rattle.records.proofs.Told.{gps-told, gps-answer-told, gps-extended-told, gps-extended-answer-told, link-statistics-told, link-statistics-answer-told, baro-altitude-told, baro-altitude-answer-told, battery-told, battery-answer-told}
-
-pub gps-new-one : OneAnswer {Seen = Gps} gps-new.Post (λ κs r s. r)
-gps-new-one κs a r r′ s s′ = gps-told
-
-pub gps-from-bytes-one : OneAnswer {Seen = GpsRead} gps-from-bytes.Post (λ κs r s. r)
-gps-from-bytes-one κs a r r′ s s′ = gps-answer-told
-
-pub gps-to-bytes-one : OneAnswer {Seen = Written × List ℕ} gps-to-bytes.Post (λ κs r s. (r, now (s .1 .0)))
-gps-to-bytes-one κs a r r′ s s′ = same
-
-pub gps-get-altitude-m-one : OneAnswer {Seen = ℤ} gps-get-altitude-m.Post (λ κs r s. r .0)
-gps-get-altitude-m-one κs a r r′ s s′ = same
-
-pub gps-extended-new-one : OneAnswer {Seen = GpsExtended} gps-extended-new.Post (λ κs r s. r)
-gps-extended-new-one κs a r r′ s s′ = gps-extended-told
-
-pub gps-extended-from-bytes-one : OneAnswer {Seen = GpsExtendedRead} gps-extended-from-bytes.Post (λ κs r s. r)
-gps-extended-from-bytes-one κs a r r′ s s′ = gps-extended-answer-told
-
-pub gps-extended-to-bytes-one : OneAnswer {Seen = Written × List ℕ} gps-extended-to-bytes.Post (λ κs r s. (r, now (s .1 .0)))
-gps-extended-to-bytes-one κs a r r′ s s′ = same
+use Rattle.records.proofs.Told.{link-statistics-told, link-statistics-answer-told, baro-altitude-told, baro-altitude-answer-told, battery-told, battery-answer-told}
 
 pub link-statistics-new-one : OneAnswer {Seen = LinkStatistics} link-statistics-new.Post (λ κs r s. r)
 link-statistics-new-one κs a r r′ s s′ = link-statistics-told

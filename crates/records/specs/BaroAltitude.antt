@@ -5,7 +5,7 @@ use mathlib.Core.List.{List, [], _∷_}
 use lib.IntN.{ℤ, pos}
 use Rattle.layout.specs.Layout.{Field, signed, unsigned, recordBytes}
 use Rattle.layout.specs.Writing.{Image, bytes}
-use Rattle.records.specs.Answer.{Answer, read, tooShort, readOf}
+use Rattle.fields.specs.Answer.{Answer, read, tooShort, readOf}
 use Rattle.records.specs.declared.baro_altitude.BaroAltitude.{BaroAltitude}
 use Rattle.records.specs.declared.baro_altitude.BaroAltitudeRead.{BaroAltitudeRead}
 use Rattle.records.specs.declared.baro_altitude.BaroAltitudeRead.the-variants.{Record, InvalidPayloadLength}

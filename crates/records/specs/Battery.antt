@@ -9,7 +9,7 @@ use lib.ListN.{take}
 use Rattle.base.specs.Choice.{if_then_else_}
 use Rattle.layout.specs.Layout.{Field, signed, unsigned, readAs, recordBytes}
 use Rattle.layout.specs.Writing.{Image, bytes}
-use Rattle.records.specs.Answer.{Answer, read, tooShort}
+use Rattle.fields.specs.Answer.{Answer, read, tooShort}
 use Rattle.records.specs.declared.battery.Battery.{Battery}
 use Rattle.records.specs.declared.battery.BatteryRead.{BatteryRead}
 use Rattle.records.specs.declared.battery.BatteryRead.the-variants.{Record, InvalidPayloadLength}

@@ -1,6 +1,3 @@
-pub mod Answer
-pub mod Gps
-pub mod GpsExtended
 pub mod LinkStatistics
 pub mod BaroAltitude
 pub mod Battery

@@ -5,7 +5,7 @@ use mathlib.Core.List.{List, [], _∷_}
 use lib.IntN.{ℤ, pos}
 use Rattle.layout.specs.Layout.{Field, signed, unsigned, recordBytes}
 use Rattle.layout.specs.Writing.{Image, bytes}
-use Rattle.records.specs.Answer.{Answer, read, tooShort, readOf}
+use Rattle.fields.specs.Answer.{Answer, read, tooShort, readOf}
 use Rattle.records.specs.declared.link_statistics.LinkStatistics.{LinkStatistics}
 use Rattle.records.specs.declared.link_statistics.LinkStatisticsRead.{LinkStatisticsRead}
 use Rattle.records.specs.declared.link_statistics.LinkStatisticsRead.the-variants.{Record, InvalidPayloadLength}

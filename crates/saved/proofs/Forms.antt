@@ -15,7 +15,8 @@ use Rattle.stream.proofs.Held.{length-held}
 use Rattle.saved.specs.Groups.{groupsWithin, groups}
 use Rattle.saved.specs.Form.{savedForm, isCount, isSavable, isForm, heldOf}
 use Rattle.saved.specs.Save.{Told, done, refused, saveOf, restoreOf}
-use Rattle.saved.proofs.Writes.{paste-pasted, byte-and-copy}
+use Rattle.base.proofs.Parts.{paste-all}
+use Rattle.saved.proofs.Writes.{byte-and-copy}
 
 -- ---- one group
 
@@ -121,5 +122,5 @@ module _ (form places : List ℕ) where
   unfolding restoreOf
   restore-held {n} {after} e q copied =
       let count : n ≡ length (heldOf form) = q ∙ sym (length-held-of form) in
-      let all : after ≡ pasted places 0 (heldOf form) = copied ∙ paste-pasted places 0 (heldOf form) n count in
+      let all : after ≡ pasted places 0 (heldOf form) = copied ∙ paste-all places 0 (heldOf form) n count in
       simp (e, count, all)

@@ -1,25 +1,18 @@
 -- The code's stores and copies, as one run of bytes that is pasted.
 -- Assumes nothing.
-use mathlib.Core.Path.{_≡_, sym, ap, _∙_}
+use mathlib.Core.Path.{_≡_, ap, _∙_}
 use mathlib.Core.List.{List, [], _∷_}
-use Prim.Native.Nat.{ℕ, suc, _+_, _≤_, _<_}
+use Prim.Native.Nat.{ℕ, _+_, _≤_}
 use native.Mathlib.Omega.{arith}
-use lib.ListN.{length, take, set, length-set}
-use lib.Seq.{paste, length-take-le, take-length}
+use lib.ListN.{length, set, length-set}
+use lib.Seq.{paste}
 use Rattle.base.specs.Parts.{pasted}
-use Rattle.base.proofs.Parts.{pasted-nil, pasted-cons, pasted-append}
-
-pub set-pasted : (d : List ℕ) (k b : ℕ) → k < length d → set d k b ≡ pasted d k (b ∷ [])
-set-pasted d k b h = ap (λ (l : List ℕ). set l k b) (sym (pasted-nil d (suc k))) ∙ pasted-cons d k b [] h
-
-pub paste-pasted : (d : List ℕ) (at : ℕ) (s : List ℕ) (n : ℕ) → n ≡ length s → paste d at s n ≡ pasted d at s
-unfolding pasted
-paste-pasted d at s n e = rw (e, take-length)
+use Rattle.base.proofs.Parts.{pasted-append, paste-all, set-pasted}
 
 -- a byte, and then a copy behind it
 pub byte-and-copy : (d : List ℕ) (b : ℕ) (s : List ℕ) (n : ℕ) → n ≡ length s → 1 + n ≤ length d → paste (set d 0 b) 1 s n ≡ pasted d 0 (b ∷ s)
 byte-and-copy d b s n e room =
-    paste-pasted (set d 0 b) 1 s n e
+    paste-all (set d 0 b) 1 s n e
     ∙ ap (λ (l : List ℕ). pasted l 1 s) (set-pasted d 0 b (omega arith))
     ∙ pasted-append d 0 1 (b ∷ []) s (omega arith) (omega arith)
 

@@ -1,6 +1,6 @@
 // The saved form of the bytes that stand in lent places: their count in one byte, then the bytes.
-use stream::candidate::wide;
-use stream::places::copy_in;
+use base::copy_in;
+use base::wide;
 ghost use mathlib.Core.Path.{_≡_};
 ghost use Prim.Native.Nat.{_<_};
 ghost use Rattle.saved.specs.Form.{isCount, isSavable, isForm};

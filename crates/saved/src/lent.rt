@@ -3,8 +3,8 @@ use crate::form::Restored;
 use crate::form::Saved;
 use crate::form::is_form;
 use crate::form::save_in;
-use stream::candidate::wide;
-use stream::places::copy_in;
+use base::copy_in;
+use base::wide;
 ghost use mathlib.Core.Path.{_≡_};
 ghost use Rattle.saved.specs.Save.{toldBySave, toldByRestore, saveLentOf, restoreLentOf, resetLentOf};
 

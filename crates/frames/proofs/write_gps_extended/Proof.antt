@@ -2,7 +2,7 @@
 use mathlib.Core.Path.{refl, ap, _∙_}
 use borrow.Author.Needs.{needs}
 use lib.ListN.{replicate}
-use Rattle.records.specs.GpsExtended.{gpsExtendedImage}
+use Rattle.positions.specs.GpsExtended.{gpsExtendedImage}
 use Rattle.layout.specs.Writing.{Image, writeOf}
 use Rattle.frames.specs.Frames.{framed}
 use Rattle.frames.proofs.Payload.{Back, back}

@@ -37,7 +37,7 @@ returns-2 c =
     save-short (a .places .now) (a .start) (a .end) (a .out .now) (good (c .before)) (c .if2 .taken)
 
 count-byte-requires : tie.Need-count-byte-requires
-count-byte-requires c κs = span (c .before) .group
+count-byte-requires c κs = omega (arith, span (c .before) .group)
 
 slice-write-out : tie.Need-slice-write-out
 slice-write-out c = search needs

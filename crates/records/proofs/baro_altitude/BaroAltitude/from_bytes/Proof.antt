@@ -1,7 +1,7 @@
 -- `records::baro_altitude::BaroAltitude::from_bytes` meets its contract: each field is read at its place of the layout.
 -- Assumes nothing.
 use Rattle.records.specs.BaroAltitude.{baroAltitudeLayout, baroAltitudeValues, baroAltitudeAnswer}
-use Rattle.records.proofs.Readers.{gotFrom, refused, all-got}
+use Rattle.fields.proofs.Readers.{gotFrom, refused, all-got}
 use borrow.Author.Needs.{needs}
 use Rattle.records.proofs.baro_altitude.BaroAltitude.from_bytes.Statement.{statement}
 use Rattle.records.proofs.baro_altitude.BaroAltitude.from_bytes.Tie as tie

@@ -7,9 +7,9 @@ use Prim.Native.Nat.{ℕ}
 use borrow.Author.Tests.{le-leb, lt-leb}
 use lib.IntN.{ℤ, pos}
 use lib.ListN.{length, take}
-use Rattle.records.specs.Answer.{read}
+use Rattle.fields.specs.Answer.{read}
 use Rattle.records.specs.Battery.{batteryLayout, batteryValues, batteryAnswer, batteryRead}
-use Rattle.records.proofs.Readers.{gotFrom, got, refused, all-got}
+use Rattle.fields.proofs.Readers.{gotFrom, got, refused, all-got}
 use borrow.Author.Needs.{needs}
 use Rattle.records.proofs.battery.Battery.from_bytes.Statement.{statement}
 use Rattle.records.proofs.battery.Battery.from_bytes.Tie as tie

@@ -6,7 +6,7 @@ use lib.Dec.{lit≤}
 use lib.ListN.{take}
 use Rattle.numbers.proofs.TwosComplement.{bytesOf-natural}
 use Rattle.records.specs.Battery.{batteryLayout, batteryValues}
-use Rattle.records.proofs.Writers.{no-room, wrote, wrote-in-two}
+use Rattle.fields.proofs.Writers.{no-room, wrote, wrote-in-two}
 use borrow.Author.Needs.{needs}
 use Rattle.records.proofs.battery.Battery.to_bytes.Statement.{statement}
 use Rattle.records.proofs.battery.Battery.to_bytes.Tie as tie

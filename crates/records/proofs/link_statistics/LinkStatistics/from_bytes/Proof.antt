@@ -1,7 +1,7 @@
 -- `records::link_statistics::LinkStatistics::from_bytes` meets its contract: each field is read at its place of the layout.
 -- Assumes nothing.
 use Rattle.records.specs.LinkStatistics.{linkStatisticsLayout, linkStatisticsValues, linkStatisticsAnswer}
-use Rattle.records.proofs.Readers.{gotFrom, refused, all-got}
+use Rattle.fields.proofs.Readers.{gotFrom, refused, all-got}
 use borrow.Author.Needs.{needs}
 use Rattle.records.proofs.link_statistics.LinkStatistics.from_bytes.Statement.{statement}
 use Rattle.records.proofs.link_statistics.LinkStatistics.from_bytes.Tie as tie

@@ -3,7 +3,7 @@
 use native.Mathlib.Omega.{arith}
 use lib.ListN.{take}
 use Rattle.records.specs.LinkStatistics.{linkStatisticsLayout, linkStatisticsValues}
-use Rattle.records.proofs.Writers.{Typed, putFrom, put-fields}
+use Rattle.fields.proofs.Writers.{Typed, putFrom, put-fields}
 use borrow.Author.Needs.{needs}
 use Rattle.records.proofs.link_statistics.LinkStatistics.put_uplink.Statement.{statement}
 use Rattle.records.proofs.link_statistics.LinkStatistics.put_uplink.Tie as tie
