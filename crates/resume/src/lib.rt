@@ -1,0 +1,24 @@
+// The save and the restore of a parser that the host keeps: it is lent, as to each call, and a restore changes it in place. Thin over the forms by value.
+use parser::CrsfParser;
+use saved::Resumed;
+use saved::form::Restored;
+use saved::form::Saved;
+ghost use mathlib.Core.Path.{_≡_};
+ghost use Rattle.saved.specs.Save.{toldBySave, toldByRestore, saveOf};
+ghost use Rattle.saved.specs.Parser.{resumeOf};
+
+// What the parser holds is written as its saved form.
+pub fn save(p: &CrsfParser, out: &mut [u8]) -> Saved
+    ensures { λ r. ⌜ (toldBySave r, now (out .exit)) ≡ saveOf (now (p .entry) .buffer) (now (p .entry) .start) (now (p .entry) .end) (now (out .entry)) ⌝ }
+{
+    saved::save(*p, out)
+}
+
+// The parser goes on from a saved form. Of a malformed one it stays as it is.
+pub fn restore(p: &mut CrsfParser, form: &[u8]) -> Restored
+    ensures { λ r. ⌜ (toldByRestore r, now (p .exit)) ≡ resumeOf (now (p .entry)) (now (form .entry)) ⌝ }
+{
+    let out = saved::restore(*p, form);
+    *p = out.parser;
+    out.restored
+}
