@@ -1,3 +1,4 @@
 pub mod Told
 pub mod InPlace
 pub mod Structs
+pub mod Lending

@@ -22,3 +22,15 @@ pub fn restore(p: &mut CrsfParser, form: &[u8]) -> Restored
     *p = out.parser;
     out.restored
 }
+
+// A restore of a parser that is lent and handed back. The parameters are plain, so whoever calls this needs no walk.
+pub fn resumed(p: CrsfParser, form: &[u8]) -> Resumed
+    ensures { λ r. ⌜ (toldByRestore (r .restored), r .parser) ≡ resumeOf p (now (form .entry)) ⌝ }
+{
+    let mut q = p;
+    let restored = restore(&mut q, form);
+    Resumed {
+        parser: q,
+        restored,
+    }
+}
