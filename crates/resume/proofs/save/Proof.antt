@@ -36,7 +36,7 @@ use denote.Triple.Walked.{says, Stays, stay-none-ref, gave-slice, walkOf, goes-n
 use denote.Exit.{yes}
 use Rattle.parser.specs.declared.CrsfParser.{CrsfParser}
 use Rattle.saved.specs.declared.form.Saved.{Saved}
-use Rattle.saved.specs.Save.{toldBySave, saveOf}
+use Rattle.resume.specs.Lent.{Saves}
 use Rattle.parser.proofs.Structs.{Parser}
 use Rattle.parser.proofs.Walk.{rowOf, valOf, Stands, typed, owns-plain, looks-plain, shuts-plain, returned, proved}
 use Rattle.resume.proofs.Structs.{BySave}
@@ -73,14 +73,10 @@ module _ {M : Type 1} (𝓤 : URA M) (H : Heap 𝓤) (A : Atoms 𝓤) (W : Given
   abbrev Out : Fml
   Out = MutSlice (named 1) κ′ u8 .own out (ov ∷ [])
 
-  -- the promise
-  abbrev Writes : Saved → List ℕ → Type 0
-  Writes r zs = (toldBySave r, zs) ≡ saveOf (h .buffer) (h .start) (h .end) ys
-
   abbrev Post : Val → SProp 𝓤
   Post = walkOf 𝓤 H A save.ended stayed (save.clauses 𝓤 H A at-mem run) .post (((κ, (κ′, tt)), (q, (q′, tt)), tt, x, at), tt)
 
-  exits : (r : Saved) (v : Val) (zs : List ℕ) → Writes r zs → length zs ≡ length ys
+  exits : (r : Saved) (v : Val) (zs : List ℕ) → Saves h ys r zs → length zs ≡ length ys
       → ent 𝓤 (⋆ 𝓤 H A (‵ (flft κ q) ∷ raw (alive 𝓤 H A by-value.signature (κ′, tt) (q′, tt)) ∷ ‵ (fres γ (rowOf Parser .coded .code h)) ∷ ‵ (fshr-bor κ (λ s. partAt (rowOf Parser) s h b o)) ∷ ‵ (finally u8 γ′ zs) ∷ ‵ (BySave .row .own r (v ∷ [])) ∷ [])) (Post v)
   exits r v zs e l =
       qed W (‵ (flft κ q) ∷ raw (alive 𝓤 H A by-value.signature (κ′, tt) (q′, tt)) ∷ ‵ (fres γ (rowOf Parser .coded .code h)) ∷ ‵ (fshr-bor κ (λ s. partAt (rowOf Parser) s h b o)) ∷ ‵ (finally u8 γ′ zs) ∷ ‵ (BySave .row .own r (v ∷ [])) ∷ []) ∵
@@ -110,7 +106,7 @@ module _ {M : Type 1} (𝓤 : URA M) (H : Heap 𝓤) (A : Atoms 𝓤) (W : Given
         move ! (4 ∷ []) $ fsplit ! $ move ! (4 ∷ 0 ∷ []) $ use2 W (raw (ByValue 𝓤 H A at-mem run .pre to-by-value)) (asked g) $
         -- [what the callee asks; true; the parser's token; the fractured borrow; res; _5; …; _4; …; _3; …; _2; …; _1; …; room for _0; …]
         calls-at ! fm (ByValue 𝓤 H A at-mem run) known to-by-value (and-then ! (load ! (from ! (stop !)) (look ! 9 refl)) (and-then ! (load ! (from ! (stop !)) (look ! 5 refl)) (no-more !))) (λ v.
-        returned ! tt by-value.ended (by-value.clauses 𝓤 H A at-mem run) to-by-value v (λ r ws. Writes r (ws .1 .0)) (λ r ws. id⊢ 𝓤 _) (λ r ws is e.
+        returned ! tt by-value.ended (by-value.clauses 𝓤 H A at-mem run) to-by-value v (λ r ws. Saves h ys r (ws .1 .0)) (λ r ws. id⊢ 𝓤 _) (λ r ws is e.
         -- [the result; the last values; the slice's token; true; the parser's token; the fractured borrow; res; _5; …; _4; …; _3; …; _2; …; _1; …; room for _0; …]
         land ! (from ! (stop !)) (init ! 17 refl (BySave .typed 𝓤 H A W r v is)) $ move ! (1 ∷ []) $ fsplit ! $ move ! (1 ∷ []) $ fsplit ! $ fsplit ! $ move ! (1 ∷ []) $ feqL ! (λ l.
         -- [the last list; true; true; the result; the slice's token; true; the parser's token; the fractured borrow; res; _5; …; _4; …; _3; …; _2; …; _1; …; _0; …]
