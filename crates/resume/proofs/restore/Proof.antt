@@ -1,0 +1,27 @@
+-- `resume::restore` meets its contract: it has the form that `InPlace.antt` walks, over the restore by value.
+-- Assumes nothing.
+use mathlib.Core.List.{List}
+use Prim.Native.Nat.{ℕ}
+use denote.Triple.Table.{cited}
+use Rattle.parser.specs.declared.CrsfParser.{CrsfParser}
+use Rattle.parser.proofs.Structs.{Parser}
+use Rattle.saved.specs.declared.Resumed.{Resumed}
+use Rattle.resume.specs.Lent.{Resumes}
+use Rattle.resume.proofs.InPlace.{G, in-place}
+use Rattle.resume.proofs.Structs.{ByRestore, After, resumes}
+use Rattle.saved.proofs.restore.Symbol as by-value
+use Rattle.saved.proofs.restore.Symbol.{name as #by-value}
+use Rattle.saved.proofs.restore.Met as by-value-thm
+use Rattle.resume.proofs.restore.Key.{name as #restore}
+use Rattle.resume.proofs.restore.Statement as stated
+use Rattle.resume.proofs.restore.Code as code
+
+abbrev ByValue : CrsfParser → List ℕ → Resumed → Type 0
+ByValue p form r = Resumes p form (r .parser) (r .restored)
+
+pub restore-spec : {M : Type 1} → stated.statement M
+unfolding code.routine
+restore-spec 𝓤 H 𝓜 𝓖 𝓡 =
+    in-place After Parser ByRestore resumes ByValue Resumes (λ h s r e. e) 𝓤 H 𝓜 𝓖 𝓡 code.env #restore #by-value (code.unfolded 𝓤 H 𝓜 𝓡)
+    (cited 𝓤 H (G After Parser ByRestore resumes ByValue Resumes (λ h s r e. e) 𝓤 H (𝓖 .A)) 𝓜 𝓡 code.env #by-value by-value.routine code.calls-saved·restore
+    (by-value-thm.met 𝓤 H 𝓜 𝓖 𝓡))

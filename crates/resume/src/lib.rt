@@ -1,0 +1,35 @@
+// The save and the restore of a parser that the host keeps: it is lent, as to each call, and a restore changes it in place. Thin over the forms by value.
+use parser::CrsfParser;
+use saved::Resumed;
+use saved::form::Restored;
+use saved::form::Saved;
+ghost use mathlib.Core.Path.{_≡_};
+ghost use Rattle.resume.specs.Lent.{Saves, Resumes};
+
+// What the parser holds is written as its saved form.
+pub fn save(p: &CrsfParser, out: &mut [u8]) -> Saved
+    ensures { λ r. ⌜ Saves (now (p .entry)) (now (out .entry)) r (now (out .exit)) ⌝ }
+{
+    saved::save(*p, out)
+}
+
+// The parser goes on from a saved form. Of a malformed one it stays as it is.
+pub fn restore(p: &mut CrsfParser, form: &[u8]) -> Restored
+    ensures { λ r. ⌜ Resumes (now (p .entry)) (now (form .entry)) (now (p .exit)) r ⌝ }
+{
+    let out = saved::restore(*p, form);
+    *p = out.parser;
+    out.restored
+}
+
+// A restore of a parser that is lent and handed back. The parameters are plain, so whoever calls this needs no walk.
+pub fn resumed(p: CrsfParser, form: &[u8]) -> Resumed
+    ensures { λ r. ⌜ Resumes p (now (form .entry)) (r .parser) (r .restored) ⌝ }
+{
+    let mut q = p;
+    let restored = restore(&mut q, form);
+    Resumed {
+        parser: q,
+        restored,
+    }
+}
