@@ -1,0 +1,57 @@
+//! Runs the Rust original and the port on the same inputs and compares every answer; or times both. compare/run starts it.
+mod framing;
+mod gen;
+mod ours;
+mod queries;
+mod records;
+mod report;
+
+use report::Report;
+
+struct Options {
+    seed: u64,
+    bytes: u64,
+    /// The repository's root.
+    root: std::path::PathBuf,
+    /// Whether an emulator runs this.
+    emulated: bool,
+}
+
+const USAGE: &str = "compare/run [--seed N] [--bytes N] [--rust DIR] [--archive DIR]";
+
+fn number(text: &str) -> u64 {
+    text.parse::<f64>().ok().filter(|n| *n >= 0.0).unwrap_or_else(|| panic!("{text} is no number; usage: {USAGE}")) as u64
+}
+
+fn options() -> Options {
+    let mut o = Options { seed: 1, bytes: 20_000_000, root: ".".into(), emulated: false };
+    let mut words = std::env::args().skip(1);
+    while let Some(word) = words.next() {
+        let mut next = || words.next().unwrap_or_else(|| panic!("{word} wants a value; usage: {USAGE}"));
+        match word.as_str() {
+            "--seed" => {
+                let text = next();
+                o.seed = text.parse().unwrap_or_else(|_| panic!("{text} is no seed; usage: {USAGE}"));
+            }
+            "--bytes" => o.bytes = number(&next()),
+            "--root" => o.root = next().into(),
+            "--emulated" => o.emulated = true,
+            other => panic!("{other}? usage: {USAGE}"),
+        }
+    }
+    o
+}
+
+fn main() {
+    let o = options();
+    let how = if o.emulated { " (emulated)" } else { "" };
+    println!("seed {}, {} bytes of random streams{how}", o.seed, o.bytes);
+    let differences = o.root.join("docs/DIFFERENCES.md");
+    let mut report = Report::new(std::fs::read_to_string(&differences).unwrap_or_else(|e| panic!("{}: {e}", differences.display())));
+    framing::compare(&mut report, o.seed, o.bytes);
+    records::compare(&mut report, o.seed, 20_000.max(o.bytes / 100));
+    queries::compare(&mut report, o.seed);
+    if !report.finish() {
+        std::process::exit(1);
+    }
+}
