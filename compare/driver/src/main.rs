@@ -1,4 +1,5 @@
 //! Runs the Rust original and the port on the same inputs and compares every answer; or times both. compare/run starts it.
+mod bench;
 mod framing;
 mod gen;
 mod ours;
@@ -13,18 +14,22 @@ struct Options {
     bytes: u64,
     /// The repository's root.
     root: std::path::PathBuf,
-    /// Whether an emulator runs this.
-    emulated: bool,
+    /// Whether both sides are timed, and not compared.
+    bench: bool,
+    /// The emulator's command, where one runs this.
+    emulator: Vec<String>,
+    /// The port's listing program.
+    list: Option<String>,
 }
 
-const USAGE: &str = "compare/run [--seed N] [--bytes N] [--rust DIR] [--archive DIR]";
+const USAGE: &str = "compare/run [--seed N] [--bytes N] [--bench] [--rust DIR] [--archive DIR]";
 
 fn number(text: &str) -> u64 {
     text.parse::<f64>().ok().filter(|n| *n >= 0.0).unwrap_or_else(|| panic!("{text} is no number; usage: {USAGE}")) as u64
 }
 
 fn options() -> Options {
-    let mut o = Options { seed: 1, bytes: 20_000_000, root: ".".into(), emulated: false };
+    let mut o = Options { seed: 1, bytes: 20_000_000, root: ".".into(), bench: false, emulator: vec![], list: None };
     let mut words = std::env::args().skip(1);
     while let Some(word) = words.next() {
         let mut next = || words.next().unwrap_or_else(|| panic!("{word} wants a value; usage: {USAGE}"));
@@ -35,16 +40,32 @@ fn options() -> Options {
             }
             "--bytes" => o.bytes = number(&next()),
             "--root" => o.root = next().into(),
-            "--emulated" => o.emulated = true,
+            "--bench" => o.bench = true,
+            "--emulator" => o.emulator = next().split(' ').map(String::from).collect(),
+            "--list" => o.list = Some(next()),
             other => panic!("{other}? usage: {USAGE}"),
         }
     }
     o
 }
 
+/// Both listing programs, where the port's is at hand.
+fn listing(o: &Options) -> Option<bench::Listing> {
+    let command = |program: String| [o.emulator.clone(), vec![program]].concat();
+    let beside = std::env::current_exe().ok()?.with_file_name("rust_list");
+    Some(bench::Listing {
+        rust: command(beside.to_str()?.to_string()),
+        ours: command(o.list.clone()?),
+        file: o.root.join("target/compare/stream"),
+    })
+}
+
 fn main() {
     let o = options();
-    let how = if o.emulated { " (emulated)" } else { "" };
+    let how = if o.emulator.is_empty() { "" } else { " (emulated)" };
+    if o.bench {
+        return bench::run(!o.emulator.is_empty(), listing(&o));
+    }
     println!("seed {}, {} bytes of random streams{how}", o.seed, o.bytes);
     let differences = o.root.join("docs/DIFFERENCES.md");
     let mut report = Report::new(std::fs::read_to_string(&differences).unwrap_or_else(|e| panic!("{}: {e}", differences.display())));

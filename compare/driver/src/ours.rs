@@ -1,8 +1,10 @@
 //! The port's host entries, each behind a safe function that lends slices.
+use std::fmt;
+use uf_crsf::packets::{BaroAltitude, Battery, Gps, GpsExtended, LinkStatistics};
 
 /// What an entry answers: eight bytes in one register, which is how this struct is returned by value.
 #[repr(C)]
-#[derive(Clone, Copy, Debug, Default, PartialEq, Eq)]
+#[derive(Clone, Copy, Default, PartialEq, Eq)]
 pub struct Answer {
     pub number: u8,
     pub taken: u8,
@@ -28,6 +30,19 @@ pub const MORE: u8 = 255;
 
 /// Start, end, and 64 places.
 pub type State = [u8; 66];
+
+impl fmt::Debug for Answer {
+    /// The number, and what is not 0 beside it.
+    fn fmt(&self, f: &mut fmt::Formatter<'_>) -> fmt::Result {
+        write!(f, "[{}", self.number)?;
+        let places = ["taken", "in_state", "at", "len", "first", "second", "zero"];
+        let values = [self.taken, self.in_state, self.at, self.len, self.first, self.second, self.zero];
+        for (place, value) in places.iter().zip(values).filter(|(_, value)| *value != 0) {
+            write!(f, " {place} {value}")?;
+        }
+        write!(f, "]")
+    }
+}
 
 impl Answer {
     /// An answer that is a refusal and carries nothing.
@@ -116,51 +131,50 @@ pub fn checksum(bytes: &[u8]) -> Answer {
     unsafe { entry::crsf_checksum(bytes.as_ptr(), bytes.len()) }
 }
 
-/// Fields in the struct's order, each within its type.
 #[inline]
-pub fn write_link_statistics(f: &[i64], dest: u8, b: &mut [u8]) -> Answer {
+pub fn write_link_statistics(b: &mut [u8], dest: u8, r: &LinkStatistics) -> Answer {
     unsafe {
         entry::crsf_write_link_statistics(
-            b.as_mut_ptr(), b.len(), dest, f[0] as u8, f[1] as u8, f[2] as u8, f[3] as i8, f[4] as u8, f[5] as u8, f[6] as u8, f[7] as u8, f[8] as u8,
-            f[9] as i8,
+            b.as_mut_ptr(), b.len(), dest, r.uplink_rssi_1, r.uplink_rssi_2, r.uplink_link_quality, r.uplink_snr, r.active_antenna, r.rf_mode,
+            r.uplink_tx_power, r.downlink_rssi, r.downlink_link_quality, r.downlink_snr,
         )
     }
 }
 
 #[inline]
-pub fn write_rc_channels_packed(channels: &[u16], dest: u8, b: &mut [u8]) -> Answer {
+pub fn write_rc_channels_packed(b: &mut [u8], dest: u8, channels: &[u16]) -> Answer {
     unsafe { entry::crsf_write_rc_channels_packed(b.as_mut_ptr(), b.len(), dest, channels.as_ptr(), channels.len()) }
 }
 
 #[inline]
-pub fn write_gps(f: &[i64], dest: u8, b: &mut [u8]) -> Answer {
+pub fn write_gps(b: &mut [u8], dest: u8, r: &Gps) -> Answer {
     unsafe {
-        entry::crsf_write_gps(b.as_mut_ptr(), b.len(), dest, f[0] as i32, f[1] as i32, f[2] as u16, f[3] as u16, f[4] as u16, f[5] as u8)
+        entry::crsf_write_gps(b.as_mut_ptr(), b.len(), dest, r.latitude, r.longitude, r.groundspeed, r.heading, r.altitude, r.satellites)
     }
 }
 
 #[inline]
-pub fn write_gps_extended(f: &[i64], dest: u8, b: &mut [u8]) -> Answer {
+pub fn write_gps_extended(b: &mut [u8], dest: u8, r: &GpsExtended) -> Answer {
     unsafe {
         entry::crsf_write_gps_extended(
-            b.as_mut_ptr(), b.len(), dest, f[0] as u8, f[1] as i16, f[2] as i16, f[3] as i16, f[4] as i16, f[5] as i16, f[6] as i16, f[7] as i16,
-            f[8] as i16, f[9] as u8, f[10] as u8, f[11] as u8,
+            b.as_mut_ptr(), b.len(), dest, r.fix_type, r.n_speed, r.e_speed, r.v_speed, r.h_speed_acc, r.track_acc, r.alt_ellipsoid, r.h_acc,
+            r.v_acc, r.reserved, r.h_dop, r.v_dop,
         )
     }
 }
 
 #[inline]
-pub fn write_battery(f: &[i64], dest: u8, b: &mut [u8]) -> Answer {
-    unsafe { entry::crsf_write_battery(b.as_mut_ptr(), b.len(), dest, f[0] as i16, f[1] as i16, f[2] as u32, f[3] as u8, f[4] as u8) }
+pub fn write_battery(b: &mut [u8], dest: u8, r: &Battery) -> Answer {
+    unsafe { entry::crsf_write_battery(b.as_mut_ptr(), b.len(), dest, r.voltage, r.current, r.capacity_used, r.remaining, r.id) }
 }
 
 #[inline]
-pub fn write_baro_altitude(f: &[i64], dest: u8, b: &mut [u8]) -> Answer {
-    unsafe { entry::crsf_write_baro_altitude(b.as_mut_ptr(), b.len(), dest, f[0] as u16, f[1] as i8) }
+pub fn write_baro_altitude(b: &mut [u8], dest: u8, r: &BaroAltitude) -> Answer {
+    unsafe { entry::crsf_write_baro_altitude(b.as_mut_ptr(), b.len(), dest, r.altitude_packed, r.vertical_speed_packed) }
 }
 
 #[inline]
-pub fn write_rpm(id: u8, values: &[i32], dest: u8, b: &mut [u8]) -> Answer {
+pub fn write_rpm(b: &mut [u8], dest: u8, id: u8, values: &[i32]) -> Answer {
     unsafe { entry::crsf_write_rpm(b.as_mut_ptr(), b.len(), dest, id, values.as_ptr(), values.len()) }
 }
 

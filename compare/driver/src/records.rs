@@ -69,7 +69,7 @@ pub const RECORDS: [Record; 7] = [
         name: "link statistics",
         ranges: &[U8, U8, U8, I8, U8, U8, U8, U8, U8, I8],
         write_rust: |f, dest, b| write_packet_to_buffer(b, dest, &link_statistics(f)),
-        write_ours: ours::write_link_statistics,
+        write_ours: |f, dest, b| ours::write_link_statistics(b, dest, &link_statistics(f)),
         read_rust: |p, out| {
             let r = LinkStatistics::from_bytes(p)?;
             out.extend([r.uplink_rssi_1, r.uplink_rssi_2, r.uplink_link_quality].map(i64::from));
@@ -84,7 +84,7 @@ pub const RECORDS: [Record; 7] = [
         name: "channels",
         ranges: &[CHANNEL; 16],
         write_rust: |f, dest, b| write_packet_to_buffer(b, dest, &RcChannelsPacked(channels(f))),
-        write_ours: |f, dest, b| ours::write_rc_channels_packed(&channels(f), dest, b),
+        write_ours: |f, dest, b| ours::write_rc_channels_packed(b, dest, &channels(f)),
         read_rust: |p, out| {
             out.extend(RcChannelsPacked::from_bytes(p)?.0.map(i64::from));
             Ok(())
@@ -95,7 +95,7 @@ pub const RECORDS: [Record; 7] = [
         name: "GPS",
         ranges: &[I32, I32, U16, U16, U16, U8],
         write_rust: |f, dest, b| write_packet_to_buffer(b, dest, &gps(f)),
-        write_ours: ours::write_gps,
+        write_ours: |f, dest, b| ours::write_gps(b, dest, &gps(f)),
         read_rust: |p, out| {
             let r = Gps::from_bytes(p)?;
             out.extend([r.latitude, r.longitude].map(i64::from));
@@ -108,7 +108,7 @@ pub const RECORDS: [Record; 7] = [
         name: "GPS extended",
         ranges: &[U8, I16, I16, I16, I16, I16, I16, I16, I16, U8, U8, U8],
         write_rust: |f, dest, b| write_packet_to_buffer(b, dest, &gps_extended(f)),
-        write_ours: ours::write_gps_extended,
+        write_ours: |f, dest, b| ours::write_gps_extended(b, dest, &gps_extended(f)),
         read_rust: |p, out| {
             let r = GpsExtended::from_bytes(p)?;
             out.push(i64::from(r.fix_type));
@@ -122,7 +122,7 @@ pub const RECORDS: [Record; 7] = [
         name: "battery",
         ranges: &[I16, I16, U32, U8, U8],
         write_rust: |f, dest, b| write_packet_to_buffer(b, dest, &battery(f)),
-        write_ours: ours::write_battery,
+        write_ours: |f, dest, b| ours::write_battery(b, dest, &battery(f)),
         read_rust: |p, out| {
             let r = Battery::from_bytes(p)?;
             out.extend([r.voltage, r.current].map(i64::from));
@@ -135,7 +135,7 @@ pub const RECORDS: [Record; 7] = [
         name: "altitude",
         ranges: &[U16, I8],
         write_rust: |f, dest, b| write_packet_to_buffer(b, dest, &baro_altitude(f)),
-        write_ours: ours::write_baro_altitude,
+        write_ours: |f, dest, b| ours::write_baro_altitude(b, dest, &baro_altitude(f)),
         read_rust: |p, out| {
             let r = BaroAltitude::from_bytes(p)?;
             out.extend([i64::from(r.altitude_packed), i64::from(r.vertical_speed_packed)]);
@@ -149,7 +149,7 @@ pub const RECORDS: [Record; 7] = [
             U8, I32, I32, I32, I32, I32, I32, I32, I32, I32, I32, I32, I32, I32, I32, I32, I32, I32, I32, I32,
         ],
         write_rust: |f, dest, b| write_packet_to_buffer(b, dest, &Rpm::new(f[0] as u8, &values(&f[1..]))?),
-        write_ours: |f, dest, b| ours::write_rpm(f[0] as u8, &values(&f[1..]), dest, b),
+        write_ours: |f, dest, b| ours::write_rpm(b, dest, f[0] as u8, &values(&f[1..])),
         read_rust: |p, out| {
             let r = Rpm::from_bytes(p)?;
             out.push(i64::from(r.rpm_source_id));
@@ -451,20 +451,19 @@ pub fn compare(report: &mut Report, seed: u64, random: u64) {
 
 /// What the Rust's own types rule out or get wrong, and document 01 decides: channels above 2047, too few places to read into.
 fn beyond(report: &mut Report) {
-    let spills = report.lists("channel above 2047");
+    let spills = report.lists("channel 0 set to 2048, the others 0");
     report.family("channels above 2047: the Rust lets them spill, ours refuses", |family| {
         let record = &RECORDS[1];
-        for channel in 0..16 {
+        for (channel, others) in (0..16).flat_map(|c| [0, 992].map(|others| (c, others))) {
             for value in [2048, 2049, 4095, 4096, 32768, 65535] {
-                for (len, dest) in [(26, 0xC8), (30, 0x00), (25, 0xC8), (0, 0xC8)] {
-                    let mut fields = [992; 16];
+                for len in [26, 30, 25, 0] {
+                    let mut fields = [others; 16];
                     fields[channel] = value;
-                    fields[15] = fields[15].max(value);
                     let mut buffer = [0x5A; 40];
-                    let got = (record.write_ours)(&fields, dest, &mut buffer[..len]);
+                    let got = (record.write_ours)(&fields, 0xC8, &mut buffer[..len]);
                     let by_01 = Answer { number: ours::CHANNEL_RANGE, first: channel as u8, ..Answer::default() };
                     family.same((by_01, [0x5A; 40]), (got, buffer), || format!("channel {channel} at {value} in {len} bytes, by document 01"));
-                    if let Some(told) = record.write_differs(&fields, dest, len, 0x5A) {
+                    if let Some(told) = record.write_differs(&fields, 0xC8, len, 0x5A) {
                         if spills {
                             family.differs_as_listed();
                         } else {

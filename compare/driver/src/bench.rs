@@ -1,0 +1,285 @@
+//! Both sides timed in one run: rounds of each side in turn, the best of each kept, and the ratio of the two.
+use crate::gen::{self, Rng};
+use crate::ours::{self, Answer, State};
+use crate::queries::CHECK;
+use crate::records::{self, Record, RECORDS};
+use std::hint::black_box;
+use std::time::Instant;
+use uf_crsf::packets::{write_packet_to_buffer, CrsfPacket};
+use uf_crsf::packets::{BaroAltitude, Battery, Gps, GpsExtended, LinkStatistics, RcChannelsPacked, Rpm};
+use uf_crsf::{CrsfParser, PacketAddress};
+
+const ROUNDS: usize = 41;
+const STREAM: usize = 200_000;
+
+/// Nanoseconds for each of `count` things: the Rust, ours.
+struct Row {
+    rust: f64,
+    ours: f64,
+}
+
+/// The best of many rounds of each side, taken in turn. Both give a sum, which must be the same.
+fn row(name: &str, unit: &str, count: usize, mut rust: impl FnMut() -> u64, mut ours: impl FnMut() -> u64) -> Row {
+    assert_eq!(rust(), ours(), "{name}: the two sides gave different sums");
+    let (mut best_rust, mut best_ours) = (f64::MAX, f64::MAX);
+    for _ in 0..ROUNDS {
+        let t = Instant::now();
+        black_box(rust());
+        best_rust = best_rust.min(t.elapsed().as_secs_f64());
+        let t = Instant::now();
+        black_box(ours());
+        best_ours = best_ours.min(t.elapsed().as_secs_f64());
+    }
+    let ns = |seconds: f64| seconds * 1e9 / count as f64;
+    let row = Row { rust: ns(best_rust), ours: ns(best_ours) };
+    println!("| {name} | {:.2} | {:.2} | {unit} | {:.2} |", row.rust, row.ours, row.ours / row.rust);
+    row
+}
+
+/// A stream in pieces through the Rust's parser, each piece until it asks for more. The sum is of frames' types and lengths.
+#[inline(never)]
+fn stream_rust(bytes: &[u8], piece: usize) -> u64 {
+    let mut parser = CrsfParser::new();
+    let mut sum = 0;
+    for piece in bytes.chunks(piece) {
+        let mut left = piece;
+        while let Some(answer) = parser.next_raw_packet(&mut left) {
+            sum += match answer {
+                Ok(frame) => frame.len() as u64 + (u64::from(frame.raw_packet_type()) << 32),
+                Err(_) => 1 << 52,
+            };
+        }
+    }
+    sum
+}
+
+/// The same through the port's entry.
+#[inline(never)]
+fn stream_ours(bytes: &[u8], piece: usize) -> u64 {
+    let mut state: State = [0; 66];
+    let mut sum = 0;
+    for piece in bytes.chunks(piece) {
+        let mut left = piece;
+        loop {
+            let a = ours::next_raw_packet(&mut state, left);
+            if a.number == ours::MORE {
+                break;
+            }
+            sum += if a.number == ours::FRAME {
+                let frame = if a.in_state == 1 { &state[usize::from(a.at)..] } else { left };
+                u64::from(a.len) + (u64::from(frame[2]) << 32)
+            } else {
+                1 << 52
+            };
+            left = &left[usize::from(a.taken)..];
+        }
+    }
+    sum
+}
+
+/// The type and payload of each frame of a stream of whole frames.
+fn bodies(stream: &[u8]) -> Vec<&[u8]> {
+    let mut at = 0;
+    let mut all = vec![];
+    while at < stream.len() {
+        let end = at + usize::from(stream[at + 1]) + 2;
+        all.push(&stream[at + 2..end - 1]);
+        at = end;
+    }
+    all
+}
+
+fn check_bytes(all: &[&[u8]], check: impl Fn(&[u8]) -> u8) -> u64 {
+    all.iter().map(|bytes| u64::from(check(bytes))).sum()
+}
+
+/// How many records a round reads or writes.
+const MANY: usize = 4096;
+
+/// A kind of record for timing: the Rust's reading and writing stand behind calls of their own, as the port's do.
+macro_rules! record_rows {
+    ($name:expr, $kind:ty, $record:expr, $make:expr, $read_ours:expr, $write_ours:expr) => {{
+        #[inline(never)]
+        fn read(p: &[u8]) -> Result<$kind, uf_crsf::CrsfParsingError> {
+            <$kind>::from_bytes(p)
+        }
+        #[inline(never)]
+        fn write(b: &mut [u8], r: &$kind) -> Result<usize, uf_crsf::CrsfParsingError> {
+            write_packet_to_buffer(b, PacketAddress::FlightController, r)
+        }
+        let record: &Record = $record;
+        let mut r = Rng::new(7);
+        let all: Vec<$kind> = (0..64).map(|_| $make(&record.random_fields(&mut r))).collect();
+        let frames: Vec<Vec<u8>> = all
+            .iter()
+            .map(|x| {
+                let mut b = [0; 64];
+                let n = write(&mut b, x).expect("64 bytes are enough");
+                b[3..n - 1].to_vec()
+            })
+            .collect();
+        row(
+            &format!("{} read", $name),
+            "record",
+            MANY,
+            || {
+                (0..MANY).filter(|i| black_box(read(black_box(&frames[i % 64]))).is_ok()).count() as u64
+            },
+            || (0..MANY).filter(|i| $read_ours(black_box(&frames[i % 64])).number == ours::OK).count() as u64,
+        );
+        row(
+            &format!("{} written", $name),
+            "frame",
+            MANY,
+            || {
+                let mut b = [0u8; 64];
+                (0..MANY).map(|i| write(black_box(&mut b), black_box(&all[i % 64])).unwrap_or(0) as u64).sum()
+            },
+            || {
+                let mut b = [0u8; 64];
+                (0..MANY).map(|i| u64::from($write_ours(black_box(&mut b[..]), 0xC8, black_box(&all[i % 64])).len)).sum()
+            },
+        );
+    }};
+}
+
+/// Lends places for the fields, and keeps the compiler from dropping what is written there.
+fn lend<T: Copy + Default, const N: usize>(read: impl FnOnce(&mut [T]) -> Answer) -> Answer {
+    let mut out = [T::default(); N];
+    let answer = read(&mut out);
+    black_box(&out);
+    answer
+}
+
+fn rpm_of(f: &[i64]) -> Rpm {
+    let values: Vec<i32> = (0..4).map(|i| f.get(1 + i).copied().unwrap_or(i as i64) as i32).collect();
+    Rpm::new(f[0] as u8, &values).expect("four values are allowed")
+}
+
+pub fn run(emulated: bool, listing: Option<Listing>) {
+    println!("machine: {}{}", machine(), if emulated { ", emulated: only the ratios say anything" } else { "" });
+    println!("best of {ROUNDS} rounds of each side, in turn; ns\n");
+    println!("| row | the Rust | ours | for each | ours : Rust |\n|---|---|---|---|---|");
+    let mut r = Rng::new(42);
+    let typical = gen::typical(&mut r, STREAM);
+    let frames = bodies(&typical);
+    let mut noise = vec![0; STREAM];
+    r.fill(&mut noise);
+    let runs = vec![0xC8; STREAM / 2];
+    let mut damaged = vec![];
+    for (i, body) in frames.iter().enumerate() {
+        let mut f = gen::frame(0xC8, body);
+        f[5] ^= if i % 4 == 0 { 0x55 } else { 0 };
+        damaged.extend(f);
+    }
+    let contiguous =
+        row("typical frames, contiguous", "frame", frames.len(), || stream_rust(&typical, STREAM * 2), || stream_ours(&typical, STREAM * 2));
+    for (name, bytes, piece) in [
+        ("typical frames in 64-byte pieces", &typical, 64),
+        ("typical frames in 16-byte pieces", &typical, 16),
+        ("typical frames in 1-byte pieces", &typical, 1),
+        ("noise, contiguous", &noise, STREAM * 2),
+        ("noise in 16-byte pieces", &noise, 16),
+        ("runs of C8, contiguous", &runs, STREAM * 2),
+        ("each fourth frame damaged, contiguous", &damaged, STREAM * 2),
+    ] {
+        row(name, "byte", bytes.len(), || stream_rust(bytes, piece), || stream_ours(bytes, piece));
+    }
+    let check = row(
+        "check byte of each typical frame",
+        "frame",
+        frames.len(),
+        || check_bytes(&frames, |b| CHECK.checksum(b)),
+        || check_bytes(&frames, |b| ours::checksum(b).first),
+    );
+    row("check byte of a long string", "byte", noise.len(), || u64::from(CHECK.checksum(&noise)), || u64::from(ours::checksum(&noise).first));
+    record_rows!("link statistics", LinkStatistics, &RECORDS[0], records::link_statistics, |p: &[u8]| lend::<i32, 10>(|o| ours::read_link_statistics(p, o)), ours::write_link_statistics);
+    record_rows!(
+        "channels",
+        RcChannelsPacked,
+        &RECORDS[1],
+        |f: &[i64]| RcChannelsPacked(std::array::from_fn(|i| f[i] as u16)),
+        |p: &[u8]| lend::<u16, 16>(|o| ours::read_rc_channels_packed(p, o)),
+        |b: &mut [u8], dest, r: &RcChannelsPacked| ours::write_rc_channels_packed(b, dest, &r.0)
+    );
+    record_rows!("GPS", Gps, &RECORDS[2], records::gps, |p: &[u8]| lend::<i32, 6>(|o| ours::read_gps(p, o)), ours::write_gps);
+    record_rows!("GPS extended", GpsExtended, &RECORDS[3], records::gps_extended, |p: &[u8]| lend::<i32, 12>(|o| ours::read_gps_extended(p, o)), ours::write_gps_extended);
+    record_rows!("battery", Battery, &RECORDS[4], records::battery, |p: &[u8]| lend::<i32, 5>(|o| ours::read_battery(p, o)), ours::write_battery);
+    record_rows!("altitude", BaroAltitude, &RECORDS[5], records::baro_altitude, |p: &[u8]| lend::<i32, 2>(|o| ours::read_baro_altitude(p, o)), ours::write_baro_altitude);
+    record_rows!(
+        "RPM of 4 values",
+        Rpm,
+        &RECORDS[6],
+        rpm_of,
+        |p: &[u8]| lend::<i32, 19>(|o| ours::read_rpm(p, o)),
+        |b: &mut [u8], dest, r: &Rpm| ours::write_rpm(b, dest, r.rpm_source_id, r.rpm_values())
+    );
+    let heights: Vec<i32> = (0..MANY as i32).map(|i| i * 80 - 10_000).collect();
+    row(
+        "altitude packed and unpacked",
+        "value",
+        MANY,
+        || {
+            heights.iter().map(|d| BaroAltitude { altitude_packed: BaroAltitude::get_altitude_packed(black_box(*d)), vertical_speed_packed: 0 }.get_altitude_dm() as u64).fold(0, u64::wrapping_add)
+        },
+        || heights.iter().map(|d| ours::baro_decimetres(ours::pack_altitude(black_box(*d))) as u64).fold(0, u64::wrapping_add),
+    );
+    if let Some(listing) = listing {
+        listing.row();
+    }
+    println!(
+        "\nThe contiguous row against the check byte alone over the same frames: ours {:.2} times ours, {:.2} times the faster of the two; the Rust {:.2} times its own.",
+        contiguous.ours / check.ours,
+        contiguous.ours / check.ours.min(check.rust),
+        contiguous.rust / check.rust
+    );
+}
+
+/// The listing programs, each a command with its words, and the file that they read.
+pub struct Listing {
+    pub rust: Vec<String>,
+    pub ours: Vec<String>,
+    pub file: std::path::PathBuf,
+}
+
+impl Listing {
+    fn time(&self, command: &[String], output: &std::path::Path) -> f64 {
+        let input = std::fs::File::open(&self.file).expect("the stream was written");
+        let output = std::fs::File::create(output).expect("the listing can be written");
+        let t = Instant::now();
+        let status = std::process::Command::new(&command[0]).args(&command[1..]).stdin(input).stdout(output).status();
+        assert!(status.expect("the listing program starts").success(), "{command:?} failed");
+        t.elapsed().as_secs_f64()
+    }
+
+    /// Whole programs over a file: typical frames, some damaged, some noise.
+    fn row(&self) {
+        const BYTES: usize = 50_000_000;
+        let mut r = Rng::new(9);
+        let mut stream = vec![];
+        while stream.len() < BYTES {
+            stream.extend(gen::typical(&mut r, 20_000));
+            stream.extend(gen::stream(&mut r, 200));
+        }
+        std::fs::write(&self.file, &stream).expect("the stream can be written");
+        let (one, two) = (self.file.with_extension("rust"), self.file.with_extension("ours"));
+        let (mut rust, mut ours) = (f64::MAX, f64::MAX);
+        for _ in 0..7 {
+            rust = rust.min(self.time(&self.rust, &one));
+            ours = ours.min(self.time(&self.ours, &two));
+        }
+        let same = std::fs::read(&one).expect("a listing") == std::fs::read(&two).expect("a listing");
+        assert!(same, "the two listings differ: {} and {}", one.display(), two.display());
+        let ns = |seconds: f64| seconds * 1e9 / stream.len() as f64;
+        println!("| listing, whole program, {} MB | {:.2} | {:.2} | byte | {:.2} |", stream.len() / 1_000_000, ns(rust), ns(ours), ours / rust);
+        for file in [&self.file, &one, &two] {
+            let _ = std::fs::remove_file(file);
+        }
+    }
+}
+
+fn machine() -> String {
+    let text = std::fs::read_to_string("/proc/cpuinfo").unwrap_or_default();
+    let model = text.lines().find_map(|line| line.strip_prefix("model name")?.split_once(':'));
+    model.map_or_else(|| "unknown".to_string(), |(_, name)| name.trim().to_string())
+}
