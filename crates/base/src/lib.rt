@@ -1,6 +1,6 @@
 // What every crate above needs of lists and tests stands in specs/ and proofs/; and the one copy of bytes from a slice to a slice.
 ghost use mathlib.Core.Path.{_≡_};
-ghost use Prim.Native.Nat.{_+_, _≤_};
+ghost use Prim.Native.Nat.{_+_, _≤_, _<_};
 ghost use lib.ListN.{length};
 ghost use lib.Seq.{paste};
 
@@ -14,4 +14,11 @@ pub fn copy_in(dst: &mut [u8], at: usize, src: &[u8], count: usize)
         dst[at + i] = src[i];
         i += 1;
     }
+}
+
+// A byte as a place or a count.
+pub fn wide(b: u8) -> usize
+    ensures { λ r. ⌜ (r ≡ b) × (r < 256) ⌝ }
+{
+    b as usize
 }

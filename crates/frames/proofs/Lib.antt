@@ -1,3 +1,5 @@
 pub mod Built
+pub mod Fits
 pub mod Payload
 pub mod Laws
+pub mod Unique

@@ -1,3 +1,5 @@
 pub mod BigEndian
 pub mod TwosComplement
 pub mod Signs
+pub mod Unique
+pub mod RoundTrip

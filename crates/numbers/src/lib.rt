@@ -40,6 +40,20 @@ pub fn get_u16(s: &[u8], at: usize) -> u16
     get(s, at, 2) as u16
 }
 
+pub fn get_u24(s: &[u8], at: usize) -> u32
+    requires { ⌜ at + 3 ≤ length (now s) ⌝ }
+    ensures { λ r. ⌜ r ≡ beOf (part (now (s .entry)) at 3) ⌝ }
+{
+    get(s, at, 3)
+}
+
+pub fn get_u32(s: &[u8], at: usize) -> u32
+    requires { ⌜ at + 4 ≤ length (now s) ⌝ }
+    ensures { λ r. ⌜ r ≡ beOf (part (now (s .entry)) at 4) ⌝ }
+{
+    get(s, at, 4)
+}
+
 // Writes the low `width` bytes of `n` from `at`, from the last to the first.
 pub fn put(out: &mut [u8], at: usize, width: usize, n: u32)
     requires { ⌜ at + width ≤ length (now out) ⌝ }
@@ -66,6 +80,21 @@ pub fn put_u16(out: &mut [u8], at: usize, v: u16)
     ensures { λ _. ⌜ now (out .exit) ≡ pasted (now (out .entry)) at (bytesOf 2 v) ⌝ }
 {
     put(out, at, 2, v as u32);
+}
+
+// The low 24 bits of `v`.
+pub fn put_u24(out: &mut [u8], at: usize, v: u32)
+    requires { ⌜ at + 3 ≤ length (now out) ⌝ }
+    ensures { λ _. ⌜ now (out .exit) ≡ pasted (now (out .entry)) at (bytesOf 3 v) ⌝ }
+{
+    put(out, at, 3, v);
+}
+
+pub fn put_u32(out: &mut [u8], at: usize, v: u32)
+    requires { ⌜ at + 4 ≤ length (now out) ⌝ }
+    ensures { λ _. ⌜ now (out .exit) ≡ pasted (now (out .entry)) at (bytesOf 4 v) ⌝ }
+{
+    put(out, at, 4, v);
 }
 
 // The first number of a width that stands for a negative one: half of the width's numbers lie below it.
@@ -102,6 +131,13 @@ pub fn get_signed(s: &[u8], at: usize, width: usize) -> i32
     signed(get(s, at, width), width)
 }
 
+pub fn get_i8(s: &[u8], at: usize) -> i8
+    requires { ⌜ at + 1 ≤ length (now s) ⌝ }
+    ensures { λ r. ⌜ r ≡ signedOf 1 (beOf (part (now (s .entry)) at 1)) ⌝ }
+{
+    get_signed(s, at, 1) as i8
+}
+
 pub fn get_i16(s: &[u8], at: usize) -> i16
     requires { ⌜ at + 2 ≤ length (now s) ⌝ }
     ensures { λ r. ⌜ r ≡ signedOf 2 (beOf (part (now (s .entry)) at 2)) ⌝ }
@@ -109,11 +145,18 @@ pub fn get_i16(s: &[u8], at: usize) -> i16
     get_signed(s, at, 2) as i16
 }
 
-pub fn get_i8(s: &[u8], at: usize) -> i8
-    requires { ⌜ at + 1 ≤ length (now s) ⌝ }
-    ensures { λ r. ⌜ r ≡ signedOf 1 (beOf (part (now (s .entry)) at 1)) ⌝ }
+pub fn get_i24(s: &[u8], at: usize) -> i32
+    requires { ⌜ at + 3 ≤ length (now s) ⌝ }
+    ensures { λ r. ⌜ r ≡ signedOf 3 (beOf (part (now (s .entry)) at 3)) ⌝ }
 {
-    get_signed(s, at, 1) as i8
+    get_signed(s, at, 3)
+}
+
+pub fn get_i32(s: &[u8], at: usize) -> i32
+    requires { ⌜ at + 4 ≤ length (now s) ⌝ }
+    ensures { λ r. ⌜ r ≡ signedOf 4 (beOf (part (now (s .entry)) at 4)) ⌝ }
+{
+    get_signed(s, at, 4)
 }
 
 // The 32 bits of `v` in two's complement.
@@ -135,6 +178,13 @@ pub fn put_signed(out: &mut [u8], at: usize, width: usize, v: i32)
     put(out, at, width, bits(v));
 }
 
+pub fn put_i8(out: &mut [u8], at: usize, v: i8)
+    requires { ⌜ at + 1 ≤ length (now out) ⌝ }
+    ensures { λ _. ⌜ now (out .exit) ≡ pasted (now (out .entry)) at (bytesOf 1 (twosOf 1 v)) ⌝ }
+{
+    put_signed(out, at, 1, v as i32);
+}
+
 pub fn put_i16(out: &mut [u8], at: usize, v: i16)
     requires { ⌜ at + 2 ≤ length (now out) ⌝ }
     ensures { λ _. ⌜ now (out .exit) ≡ pasted (now (out .entry)) at (bytesOf 2 (twosOf 2 v)) ⌝ }
@@ -142,9 +192,17 @@ pub fn put_i16(out: &mut [u8], at: usize, v: i16)
     put_signed(out, at, 2, v as i32);
 }
 
-pub fn put_i8(out: &mut [u8], at: usize, v: i8)
-    requires { ⌜ at + 1 ≤ length (now out) ⌝ }
-    ensures { λ _. ⌜ now (out .exit) ≡ pasted (now (out .entry)) at (bytesOf 1 (twosOf 1 v)) ⌝ }
+// The low 24 bits of `v`.
+pub fn put_i24(out: &mut [u8], at: usize, v: i32)
+    requires { ⌜ at + 3 ≤ length (now out) ⌝ }
+    ensures { λ _. ⌜ now (out .exit) ≡ pasted (now (out .entry)) at (bytesOf 3 (twosOf 3 v)) ⌝ }
 {
-    put_signed(out, at, 1, v as i32);
+    put_signed(out, at, 3, v);
+}
+
+pub fn put_i32(out: &mut [u8], at: usize, v: i32)
+    requires { ⌜ at + 4 ≤ length (now out) ⌝ }
+    ensures { λ _. ⌜ now (out .exit) ≡ pasted (now (out .entry)) at (bytesOf 4 (twosOf 4 v)) ⌝ }
+{
+    put_signed(out, at, 4, v);
 }

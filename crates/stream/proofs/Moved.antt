@@ -1,10 +1,11 @@
 -- From what the code's parts ensure to what a call promises: with nothing held, and with some bytes held.
 -- Assumes nothing.
 use mathlib.Core.Path.{_≡_, refl, sym, ap, ap₂, _∙_, subst}
-use mathlib.Core.Bool.{true, false}
-use mathlib.Core.List.{List, [], _++_}
+use mathlib.Core.Bool.{Bool, true, false, cond}
+use mathlib.Core.List.{List, _++_}
 use Prim.Native.Nat.{ℕ, _+_, _-_, _≤_, _<_}
 use native.Mathlib.Omega.{arith}
+use lib.Dec.{eqb}
 use lib.ListN.{length, getD, take, drop, length-append, length-take}
 use lib.Seq.{take-take, paste}
 use Rattle.crc.specs.Remainder.{remainder}
@@ -14,16 +15,28 @@ use Rattle.crc.specs.declared.Check.the-variants.{Right, Wrong}
 use Rattle.reading.specs.Reach.{reachOf, reach}
 use Rattle.reading.proofs.Reach.{at-most, at-least, topped, topped-reach}
 use Rattle.stream.specs.declared.step.Answer.{Answer}
-use Rattle.stream.specs.declared.step.Answer.the-variants.{Stop, InPiece, InHeld}
+use Rattle.stream.specs.declared.step.Answer.the-variants.{Stop, InPiece, InHeld, InvalidSync, InvalidPacketLength}
 use Rattle.stream.specs.declared.places.Span.{Span}
 use Rattle.stream.specs.Places.{heldIn, Appended}
-use Rattle.stream.specs.Step.{Said, frame, meaningOf, faultOf, droppedOf, answerOf, Moves}
+use Rattle.stream.specs.Step.{frame, meaningOf, faultOf, droppedOf, answerOf, Placed, Moves}
 use Rattle.stream.proofs.Held.{length-held, first-of-held, held-all, held-drop}
 use Rattle.stream.proofs.Judged.{Judged, retold, judged-fault, judged-check, fresh-stops, fresh-judged, held-stops, held-judged}
 
 dropped-fits : (c : Check) (n : ℕ) → 1 ≤ n → droppedOf c n ≤ n
 dropped-fits Right n h = omega arith
 dropped-fits (Wrong a b) n h = h
+
+-- the answers that the code's parts give say where a frame lies only where the whole candidate does
+placed-fault : (m : ℕ) (piece : List ℕ) (n : ℕ) (s : List ℕ) → Placed m piece (faultOf n s)
+placed-fault m piece n s = by-bool (eqb n 1)
+  where
+    by-bool : (b : Bool) → Placed m piece (cond b (InvalidSync (getD s 0 0)) (InvalidPacketLength (getD s 1 0)))
+    by-bool true = tt
+    by-bool false = tt
+
+placed-check : (m : ℕ) (piece : List ℕ) (check : Check) (whole : Answer) → Placed m piece whole → Placed m piece (answerOf check whole)
+placed-check m piece Right whole p = p
+placed-check m piece (Wrong a b) whole p = tt
 
 -- ---- Nothing is held
 
@@ -47,24 +60,27 @@ module _ {places input : List ℕ} {n : ℕ} (h : Fresh places input n) where
       record {
         ordered = omega arith;
         inside = omega arith;
+        placed = tt;
         outcome = fresh-stops (length places) input (omega (arith, h .size)) (held-all places input (omega arith) copied);
       }
 
-  fresh-moves : {answer : Answer} {gone : ℕ} → Judged (length places) input false (meaningOf answer input places) gone
+  fresh-moves : {answer : Answer} {gone : ℕ} → Placed (length places) input answer → Judged (length places) input false (meaningOf answer input places) gone
       → Moves (length places) places 0 0 input places (record { start = 0; end = 0; taken = gone; answer = answer })
-  fresh-moves j = record { ordered = omega arith; inside = omega arith; outcome = fresh-judged (length places) input j }
+  fresh-moves p j = record { ordered = omega arith; inside = omega arith; placed = p; outcome = fresh-judged (length places) input j }
 
   pub fresh-fault : {answer : Answer} → n < 3 → n ≤ length input → answer ≡ faultOf n input
       → Moves (length places) places 0 0 input places (record { start = 0; end = 0; taken = 1; answer = answer })
   fresh-fault few there says =
-      fresh-moves (retold input places says refl (judged-fault (length places) input false input places n (h .size) there fresh-some few))
+      fresh-moves (subst (Placed (length places) input) (sym says) (placed-fault (length places) input n input))
+      (retold input places says refl (judged-fault (length places) input false input places n (h .size) there fresh-some few))
 
   pub fresh-check : {answer : Answer} {gone : ℕ} (check : Check) → 3 ≤ n → n ≤ length input
       → check ≡ checkOf (remainder (take (n - 1 - 2) (drop 2 input))) (getD input (n - 1) 0) → gone ≡ droppedOf check n → answer ≡ answerOf check (InPiece n)
       → Moves (length places) places 0 0 input places (record { start = 0; end = 0; taken = gone; answer = answer })
   unfolding meaningOf
   fresh-check check three there k drops says =
-      fresh-moves (retold input places says drops (judged-check (length places) input false input places n (h .size) there check (InPiece n) three k refl))
+      fresh-moves (subst (Placed (length places) input) (sym says) (placed-check (length places) input check (InPiece n) there))
+      (retold input places says drops (judged-check (length places) input false input places n (h .size) there check (InPiece n) three k refl))
 
 -- ---- Something is held
 
@@ -107,6 +123,7 @@ module _ {places : List ℕ} {start end : ℕ} {input : List ℕ} {n : ℕ} (h :
       record {
         ordered = a .ordered;
         inside = a .inside;
+        placed = tt;
         outcome = held-stops m held input some-held (omega (arith, h .size, size-held)) (a .held);
       }
 
@@ -151,12 +168,14 @@ module _ {places : List ℕ} {start end : ℕ} {input : List ℕ} {n lacks : ℕ
   pub held-start : {gone : ℕ} (check : Check) → gone ≡ droppedOf check n → span .start + gone ≤ span .end
   held-start check drops = omega (arith, front-room, f .appended .ordered, dropped-fits check n (held-some (f .sized)))
 
-  held-moves : {answer : Answer} {gone : ℕ} → span .start + gone ≤ span .end → Judged limit front true (meaningOf answer input after) gone
+  held-moves : {answer : Answer} {gone : ℕ} → span .start + gone ≤ span .end → Placed limit input answer
+      → Judged limit front true (meaningOf answer input after) gone
       → Moves limit places start end input after (record { start = span .start + gone; end = span .end; taken = lacks; answer = answer })
-  held-moves {answer} {gone} low j =
+  held-moves {answer} {gone} low p j =
       record {
         ordered = low;
         inside = f .appended .inside;
+        placed = p;
         outcome = held-judged limit before input (some-held (f .sized))
             (subst (λ (t : List ℕ). Judged limit t true (meaningOf answer input after) gone) front-is j)
             lacks-so-many
@@ -167,6 +186,7 @@ module _ {places : List ℕ} {start end : ℕ} {input : List ℕ} {n lacks : ℕ
       → Moves limit places start end input after (record { start = span .start + 1; end = span .end; taken = lacks; answer = answer })
   held-fault few says =
       held-moves (omega (arith, front-room, f .appended .ordered, held-some (f .sized)))
+      (subst (Placed limit input) (sym says) (placed-fault limit input n front))
       (retold input after says refl (judged-fault limit front true input after n front-reach front-whole (held-some (f .sized)) few))
 
   pub held-check : {answer : Answer} {gone : ℕ} (check : Check) → 3 ≤ n
@@ -176,6 +196,8 @@ module _ {places : List ℕ} {start end : ℕ} {input : List ℕ} {n lacks : ℕ
   unfolding meaningOf
   held-check check three k drops says =
       held-moves (held-start check drops)
+      (subst (Placed limit input) (sym says)
+      (placed-check limit input check (InHeld (span .start) n) (omega (arith, front-room, f .appended .ordered, f .appended .inside, held-some (f .sized)))))
       (retold input after says drops
       (judged-check limit front true input after n front-reach front-whole check (InHeld (span .start) n) three k
       (ap (frame true) (sym (take-take n (span .end - span .start) (drop (span .start) after) front-room)))))

@@ -1,6 +1,6 @@
 -- What one call of the code shows, and that it is the reading's call.
 -- Assumes nothing.
-use Prim.Native.Nat.{ℕ, _≤_}
+use Prim.Native.Nat.{ℕ, _+_, _≤_}
 use mathlib.Core.Path.{_≡_}
 use mathlib.Core.List.{List, [], _∷_}
 use mathlib.Core.Bool.{Bool, true, false, cond, _&&_}
@@ -10,7 +10,7 @@ use Rattle.crc.specs.declared.Check.{Check}
 use Rattle.crc.specs.declared.Check.the-variants.{Right, Wrong}
 use Rattle.reading.specs.Answer as reading
 use Rattle.reading.specs.Reading.{First, stop, says}
-use Rattle.reading.specs.Call.{Call, call}
+use Rattle.reading.specs.Call.{call}
 use Rattle.stream.specs.Places.{heldIn}
 use Rattle.stream.specs.declared.step.Answer.{Answer}
 use Rattle.stream.specs.declared.step.Answer.the-variants.{Stop, InPiece, InHeld, InvalidSync, InvalidPacketLength, InvalidCrc, BadState}
@@ -61,9 +61,20 @@ outcomeOf m held input = record {
 abbrev pub shownBy : Moved → List ℕ → List ℕ → Outcome
 shownBy r input places = record { said = meaningOf (r .answer) input places; taken = r .taken; held = heldIn places (r .start) (r .end) }
 
+-- a frame lies where the answer says: so many bytes are there
+abbrev pub Placed : ℕ → List ℕ → Answer → Type 0
+Placed m piece Stop = Unit {0}
+Placed m piece (InPiece n) = n ≤ length piece
+Placed m piece (InHeld at n) = at + n ≤ m
+Placed m piece (InvalidSync b) = Unit {0}
+Placed m piece (InvalidPacketLength l) = Unit {0}
+Placed m piece (InvalidCrc calculated carried) = Unit {0}
+Placed m piece BadState = Unit {0}
+
 pub record Moves (m : ℕ) (before : List ℕ) (start end : ℕ) (input after : List ℕ) (r : Moved) : Type 0 where
   pub ordered : r .start ≤ r .end
   pub inside : r .end ≤ m
+  pub placed : Placed m input (r .answer)
   pub outcome : shownBy r input after ≡ outcomeOf m (heldIn before start end) input
 
 -- a start and an end that mark a part of m places, which may hold a frame
@@ -71,6 +82,7 @@ abbrev pub isSpan : ℕ → ℕ → ℕ → Bool
 isSpan m start end = leb 4 m && (leb start end && leb end m)
 
 pub record Steps (m : ℕ) (before : List ℕ) (start end : ℕ) (input after : List ℕ) (r : Moved) : Type 0 where
+  pub same : length after ≡ length before
   pub refuses : isSpan m start end ≡ false → (r ≡ record { start = start; end = end; taken = 0; answer = BadState }) × (after ≡ before)
   pub moves : isSpan m start end ≡ true → Moves m before start end input after r
 

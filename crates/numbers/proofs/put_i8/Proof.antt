@@ -1,15 +1,11 @@
 -- `numbers::put_i8` meets its contract: an i8 is itself as an i32. Assumes nothing.
-use mathlib.Core.Path.{ap, _∙_}
-use lib.IntN.{ℤ}
+use mathlib.Core.Path.{_∙_}
 use native.Mathlib.Omega.{arith}
 use borrow.Author.Needs.{needs}
-use mir.Syntax.{w8, w32}
+use mir.Syntax.{w32, w8}
 use mir.Val.{SFits}
 use mir.ValLaws.{toZ-ofZ}
-use Rattle.numbers.specs.BigEndian.{bytesOf}
-use Rattle.numbers.specs.TwosComplement.{twosOf}
-use Rattle.base.specs.Parts.{pasted}
-use Rattle.numbers.proofs.Signs.{recast}
+use Rattle.numbers.proofs.Signs.{recast, put-cast}
 use Rattle.numbers.proofs.put_i8.Statement.{statement}
 use Rattle.numbers.proofs.put_i8.Tie as tie
 
@@ -29,8 +25,7 @@ returns : tie.Need-returns
 returns c =
     let start = c .before .before .before .before .before in
     c .before .before .put-signed .ensures
-    ∙ ap (λ (z : ℤ). pasted (start .args .out .now) (start .args .at) (bytesOf 1 (twosOf 1 z)))
-    (recast w8 w32 (start .args .v) (start .fits .v) (wide start))
+    ∙ put-cast (start .args .out .now) (start .args .at) 1 (recast w8 w32 (start .args .v) (start .fits .v) (wide start))
 
 pub put-i8-spec : {M : Type 1} → statement M
 put-i8-spec = tie.close (tie.spec cast-put-signed put-signed-requires same-length returns)

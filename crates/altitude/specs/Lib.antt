@@ -1,0 +1,2 @@
+pub mod Altitude
+pub mod Edges

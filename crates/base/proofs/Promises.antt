@@ -1,0 +1,14 @@
+-- The promises of this crate's own functions leave one answer.
+-- Assumes nothing.
+use mathlib.Core.List.{List}
+use Prim.Native.Nat.{ℕ}
+use denote.Ref.{now}
+use Rattle.base.proofs.Unique.{OneAnswer, same}
+use Rattle.base.proofs.copy_in.Reads as copy-in
+use Rattle.base.proofs.wide.Reads as wide
+
+pub copy-in-one : OneAnswer {Seen = List ℕ} copy-in.Post (λ κs r s. now (s .0))
+copy-in-one κs a r r′ s s′ = same
+
+pub wide-one : OneAnswer {Seen = ℕ} wide.Post (λ κs r s. r)
+wide-one κs a r r′ s s′ p q = same (p .0) (q .0)

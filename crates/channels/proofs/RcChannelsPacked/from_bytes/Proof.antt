@@ -1,0 +1,93 @@
+-- `channels::RcChannelsPacked::from_bytes` meets its contract. The invariant: the first i channels are written, and the others are still 0.
+-- Assumes nothing.
+use mathlib.Core.Path.{_≡_, refl, sym, ap, _∙_}
+use mathlib.Core.List.{List, _++_, append-nil}
+use Prim.Native.Nat.{ℕ, _-_, _≤_}
+use native.Mathlib.Omega.{arith}
+use borrow.Author.Needs.{needs}
+use lib.ListN.{length, take, drop, set, replicate}
+use lib.Seq.{length-take-le, take-all}
+use Rattle.base.specs.Parts.{pasted}
+use Rattle.base.proofs.Parts.{pasted-front}
+use borrow.Author.Tests.{lt-ltb, le-ltb}
+use Rattle.layout.specs.declared.ReadAnswer.the-variants.{Record}
+use Rattle.channels.specs.Digits.{number}
+use Rattle.channels.specs.Channels.{channelsOf, channelsRead}
+use Rattle.channels.proofs.Digits.{length-digits}
+use Rattle.channels.proofs.Fill.{filling, fill-start, fill-front}
+use Rattle.channels.proofs.RcChannelsPacked.from_bytes.Statement.{statement}
+use Rattle.channels.proofs.RcChannelsPacked.from_bytes.Tie as tie
+
+abbrev Inv-loop : tie.InvT-loop
+Inv-loop payload channels₀ whole i₀ channels i = (i ≤ 16) × (channels ≡ filling (channelsOf whole) channels₀ 0 i)
+
+abbrev μ-loop : tie.MeasureT-loop
+μ-loop payload channels₀ whole i₀ channels i = 16 - i
+
+returns : tie.Need-returns Inv-loop μ-loop
+unfolding channelsRead
+returns c = simp (lt-ltb _ _ (c .if1 .taken))
+
+slice-aggregate-whole : tie.Need-slice-aggregate-whole Inv-loop μ-loop
+slice-aggregate-whole c = sym (length-take-le 22 (c .before .before .before .args .payload .now) (c .before .if1 .left))
+
+loop-holds : tie.Need-loop-holds Inv-loop μ-loop
+loop-holds c = (omega arith, fill-start (channelsOf (take 22 (c .before .before .before .args .payload .now))) (replicate 16 0) 0)
+
+channel-of-requires : tie.Need-channel-of-requires Inv-loop μ-loop
+channel-of-requires c κs = search needs
+
+mul-channels : tie.Need-mul-channels Inv-loop μ-loop
+mul-channels c = search needs
+
+array-write-channels : tie.Need-array-write-channels Inv-loop μ-loop
+array-write-channels c = search needs
+
+add-i : tie.Need-add-i Inv-loop μ-loop
+add-i c = search needs
+
+loop-less : tie.Need-loop-less Inv-loop μ-loop
+loop-less c = search needs
+
+loop-again : tie.Need-loop-again Inv-loop μ-loop
+loop-again c =
+    let at-loop = c .before .before in
+    let whole = take 22 (at-loop .before .before .before .before .args .payload .now) in
+    let i = at-loop .loop .i in
+    let s = channelsOf whole in
+    let n : length s ≡ 16 = length-digits 11 16 (number 8 whole) in (
+      omega arith,
+      ap (λ (l : List ℕ). set l i (c .channel-of .result)) (at-loop .loop .inv .1)
+          ∙ ap (set (filling s (replicate 16 0) 0 i) i) (c .channel-of .ensures)
+          ∙ fill-front s (replicate 16 0) i (omega arith) (omega arith),
+    )
+
+returns-2 : tie.Need-returns-2 Inv-loop μ-loop
+unfolding channelsRead
+returns-2 c =
+    let at-loop = c .before in
+    let payload = at-loop .before .before .before .before .args .payload .now in
+    let s = channelsOf (take 22 payload) in
+    let long : length s ≡ 16 = length-digits 11 16 (number 8 (take 22 payload)) in
+    let all : at-loop .loop .i ≡ 16 = omega arith in
+    rw (le-ltb (length payload) 22 (at-loop .before .before .if1 .left))
+    (ap (λ (l : List ℕ). record { answer = Record; channels = record { 0 = l } })
+    (at-loop .loop .inv .1 ∙ ap (filling s (replicate 16 0) 0) all ∙ ap (pasted (replicate 16 0) 0) (take-all 16 s (omega arith))
+    ∙ pasted-front (replicate 16 0) s ∙ ap (λ (n : ℕ). s ++ drop n (replicate 16 0)) long ∙ append-nil s))
+
+pub from-bytes-spec : {M : Type 1} → statement M
+from-bytes-spec =
+    tie.close
+    (tie.spec
+    Inv-loop
+    μ-loop
+    returns
+    slice-aggregate-whole
+    loop-holds
+    channel-of-requires
+    mul-channels
+    array-write-channels
+    add-i
+    loop-less
+    loop-again
+    returns-2)

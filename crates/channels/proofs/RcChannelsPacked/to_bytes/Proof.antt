@@ -1,0 +1,96 @@
+-- `channels::RcChannelsPacked::to_bytes` meets its contract: two groups of eleven bytes are the 22.
+-- Assumes nothing.
+use mathlib.Core.Path.{_≡_, ap, _∙_}
+use mathlib.Core.List.{List}
+use Prim.Native.Nat.{ℕ, _≤_}
+use native.Mathlib.Omega.{arith}
+use borrow.Author.Needs.{needs}
+use lib.ListN.{length}
+use Rattle.base.specs.Parts.{pasted}
+use Rattle.layout.specs.declared.Written.the-variants.{Wrote}
+use Rattle.layout.proofs.Writing.{writes, overflows, refuses}
+use Rattle.channels.specs.Digits.{number, Below}
+use Rattle.channels.specs.Channels.{bytesOf, firstAbove}
+use Rattle.channels.proofs.Digits.{length-digits}
+use Rattle.channels.proofs.FirstAbove.{none-above}
+use Rattle.channels.proofs.Fill.{two-halves}
+use Rattle.channels.proofs.Laws.{image-refused, image-bytes}
+use Rattle.channels.proofs.RcChannelsPacked.to_bytes.Statement.{statement}
+use Rattle.channels.proofs.RcChannelsPacked.to_bytes.Tie as tie
+
+abbrev Start-of : tie.Else1 → tie.Start
+Start-of c = c .before .before .before .before .before
+
+-- past the first test no channel is above 2047
+good : (c : tie.Else1) → 16 ≤ firstAbove (Start-of c .args .self .0)
+good c = rw (← (c .before .first-above .ensures)) (c .if1 .left)
+
+in-range : (c : tie.Else1) → Below 11 (Start-of c .args .self .0)
+in-range c =
+    let sixteen : length (Start-of c .args .self .0) ≡ 16 = search needs in
+    none-above (Start-of c .args .self .0) (omega (arith, good c))
+
+wrote : (c : tie.Else1) → length (bytesOf (Start-of c .args .self .0)) ≡ 22
+wrote c = length-digits 8 22 (number 11 (Start-of c .args .self .0))
+
+slice-aggregate-first-above : tie.Need-slice-aggregate-first-above
+slice-aggregate-first-above c = search needs
+
+first-above-requires : tie.Need-first-above-requires
+first-above-requires c κs = search needs
+
+returns : tie.Need-returns
+returns c =
+    let start = c .before .before .before .before .before in
+    let found = c .before .first-above .ensures in
+    rw (image-refused (start .args .self) (rw (← found) (c .if1 .taken)), found) (refuses _ (start .args .buffer .now))
+
+returns-2 : tie.Need-returns-2
+returns-2 c =
+    let start = Start-of (c .before) .args in
+    rw (image-bytes (start .self) (good (c .before)))
+    (overflows (bytesOf (start .self .0)) (start .buffer .now) 22 (wrote (c .before)) (c .if2 .taken))
+
+slice-aggregate-put-group : tie.Need-slice-aggregate-put-group
+slice-aggregate-put-group c = search needs
+
+put-group-requires : tie.Need-put-group-requires
+put-group-requires c κs = (search needs, in-range (c .before .before .before))
+
+slice-aggregate-put-group-2 : tie.Need-slice-aggregate-put-group-2
+slice-aggregate-put-group-2 c = search needs
+
+put-group-requires-2 : tie.Need-put-group-requires-2
+put-group-requires-2 c κs = (search needs, in-range (c .before .before .before .before .before .before .before .before))
+
+same-length : tie.Need-same-length
+same-length c = search needs
+
+returns-3 : tie.Need-returns-3
+returns-3 c =
+    let second = c .before .before in
+    let first = second .before .before .before .before .before in
+    let room = first .before .before .before in
+    let right = room .before in
+    let start = Start-of right .args in
+    let d : List ℕ = start .buffer .now in
+    let s : List ℕ = bytesOf (start .self .0) in
+    let stored : second .put-group2 .last .0 ≡ pasted d 0 s =
+    rw (second .put-group2 .ensures, first .put-group .ensures) (two-halves s d 11 (wrote right) (room .if2 .left)) in
+    rw (image-bytes (start .self) (good right))
+    (ap (λ (l : List ℕ). (Wrote 22, l)) stored ∙ writes s d 22 (wrote right) (room .if2 .left))
+
+pub to-bytes-spec : {M : Type 1} → statement M
+to-bytes-spec =
+    tie.close
+    (tie.spec
+    slice-aggregate-first-above
+    first-above-requires
+    returns
+    returns-2
+    slice-aggregate-put-group
+    put-group-requires
+    slice-aggregate-put-group-2
+    put-group-requires-2
+    same-length
+    returns-3)

@@ -1,0 +1,148 @@
+// RC channels (0x16): sixteen channels of 11 bits in 22 bytes.
+use layout::ReadAnswer;
+use layout::Written;
+ghost use mathlib.Core.Path.{_≡_};
+ghost use Prim.Native.Nat.{_+_, _≤_, _<_};
+ghost use lib.ListN.{length, getD};
+ghost use Rattle.base.specs.Parts.{part, pasted};
+ghost use Rattle.layout.specs.Writing.{writeOf};
+ghost use Rattle.channels.specs.Digits.{Below};
+ghost use Rattle.channels.specs.Channels.{channelsOf, bytesOf, channelsRead, firstAbove, channelsImage};
+
+// Sixteen raw channel values. Those up to 2047 can be written.
+pub struct RcChannelsPacked(pub [u16; 16]);
+
+// An enum holds no array, so the channels stand beside the answer: all 0 with a refusal.
+pub struct ChannelsRead {
+    pub answer: ReadAnswer,
+    pub channels: RcChannelsPacked,
+}
+
+fn wide8(byte: u8) -> u32
+    ensures { λ r. ⌜ (r ≡ byte) × (r < 256) ⌝ }
+{
+    byte as u32
+}
+
+fn wide16(channel: u16) -> u32
+    ensures { λ r. ⌜ (r ≡ channel) × (r < 65536) ⌝ }
+{
+    channel as u32
+}
+
+// The byte at `at`, 0 past the end.
+fn byte_at(payload: &[u8], at: usize) -> u32
+    ensures { λ r. ⌜ (r ≡ getD (now (payload .entry)) at 0) × (r < 256) ⌝ }
+{
+    if at < payload.len() {
+        wide8(payload[at])
+    } else {
+        0
+    }
+}
+
+// Channel `i` starts at bit 11 i and lies within three bytes.
+fn channel_of(payload: &[u8], i: usize) -> u16
+    requires { ⌜ i < 16 ⌝ }
+    ensures { λ r. ⌜ r ≡ getD (channelsOf (now (payload .entry))) i 0 ⌝ }
+{
+    let bit = i * 11;
+    let at = bit / 8;
+    let low = byte_at(payload, at);
+    let middle = byte_at(payload, at + 1);
+    let high = byte_at(payload, at + 2);
+    let window = low + middle * 256 + high * 65536;
+    ((window >> (bit % 8)) % 2048) as u16
+}
+
+// The channel at `i`, 0 past the last.
+fn channel_at(channels: &[u16], i: usize) -> u32
+    ensures { λ r. ⌜ (r ≡ getD (now (channels .entry)) i 0) × (r < 65536) ⌝ }
+{
+    if i < channels.len() {
+        wide16(channels[i])
+    } else {
+        0
+    }
+}
+
+// Byte `i` starts at bit 8 i and lies within two channels.
+fn byte_of(channels: &[u16], i: usize) -> u8
+    requires { ⌜ i < 22 ⌝ }
+    requires { ⌜ Below 11 (now channels) ⌝ }
+    ensures { λ r. ⌜ r ≡ getD (bytesOf (now (channels .entry))) i 0 ⌝ }
+{
+    let bit = i * 8;
+    let at = bit / 11;
+    let low = channel_at(channels, at);
+    let high = channel_at(channels, at + 1);
+    let window = low + high * 2048;
+    ((window >> (bit % 11)) % 256) as u8
+}
+
+// Eleven bytes hold eight channels. Two short loops are unrolled where one of 22 turns is not.
+fn put_group(buffer: &mut [u8], channels: &[u16], from: usize)
+    requires { ⌜ (from + 11 ≤ 22) × (from + 11 ≤ length (now buffer)) ⌝ }
+    requires { ⌜ Below 11 (now channels) ⌝ }
+    ensures { λ _. ⌜ now (buffer .exit) ≡ pasted (now (buffer .entry)) from (part (bytesOf (now (channels .entry))) from 11) ⌝ }
+{
+    for i in 0..11 {
+        buffer[from + i] = byte_of(channels, from + i);
+    }
+}
+
+// The place of the first channel above 2047, and past the last where there is none.
+fn first_above(channels: &[u16]) -> usize
+    ensures { λ r. ⌜ r ≡ firstAbove (now (channels .entry)) ⌝ }
+{
+    let mut i = 0;
+    while i < channels.len() {
+        if channels[i] > 2047 {
+            return i;
+        }
+        i += 1;
+    }
+    i
+}
+
+impl RcChannelsPacked {
+    pub const PACKET_TYPE: u8 = 0x16;
+
+    pub const MIN_PAYLOAD_SIZE: usize = 22;
+
+    pub fn from_bytes(payload: &[u8]) -> ChannelsRead
+        ensures { λ r. ⌜ r ≡ channelsRead (now (payload .entry)) ⌝ }
+    {
+        let mut channels = [0u16; 16];
+        if payload.len() < 22 {
+            return ChannelsRead {
+                answer: ReadAnswer::InvalidPayloadLength,
+                channels: RcChannelsPacked(channels),
+            };
+        }
+        let whole = &payload[..22];
+        for i in 0..16 {
+            channels[i] = channel_of(whole, i);
+        }
+        ChannelsRead {
+            answer: ReadAnswer::Record,
+            channels: RcChannelsPacked(channels),
+        }
+    }
+
+    pub fn to_bytes(self, buffer: &mut [u8]) -> Written
+        ensures { λ r. ⌜ (r, now (buffer .exit)) ≡ writeOf (channelsImage self) (now (buffer .entry)) ⌝ }
+    {
+        let packed = self.0;
+        let bad = first_above(&packed);
+        if bad < 16 {
+            return Written::ChannelRange(bad);
+        }
+        if buffer.len() < 22 {
+            return Written::BufferOverflow;
+        }
+        put_group(buffer, &packed, 0);
+        put_group(buffer, &packed, 11);
+        Written::Wrote(22)
+    }
+}

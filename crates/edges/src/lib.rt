@@ -1,0 +1,1 @@
+// Document 01's proved cases, in one table: specs/ has the table, and proofs/ the statement that each case is so. There is no code here.

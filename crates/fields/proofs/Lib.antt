@@ -1,0 +1,5 @@
+pub mod Carried
+pub mod Writers
+pub mod Readers
+pub mod Told
+pub mod Laws

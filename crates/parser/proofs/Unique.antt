@@ -1,0 +1,31 @@
+-- Each public function's promise leaves one answer. Of a call it is what the call shows: what is said, how many bytes were taken, which are held;
+-- where the held bytes stand, and the bytes beside, is the exception that document 01 knows. Assumes nothing.
+use mathlib.Core.Path.{_≡_}
+use mathlib.Core.List.{List}
+use Prim.Native.Nat.{ℕ}
+use denote.Ref.{now}
+use Rattle.base.proofs.Unique.{OneAnswer, same}
+use Rattle.stream.proofs.Unique.{one-outcome}
+use Rattle.parser.specs.declared.CrsfParser.{CrsfParser}
+use Rattle.parser.specs.declared.Stepped.{Stepped}
+use Rattle.parser.specs.Parser.{shownOf, Nexts}
+use Rattle.parser.proofs.new.Reads as new
+use Rattle.parser.proofs.reset.Reads as reset
+use Rattle.parser.proofs.held_len.Reads as held-len
+use Rattle.parser.proofs.next_raw_packet.Reads as next-raw-packet
+
+pub new-one : OneAnswer {Seen = CrsfParser} new.Post (λ κs r s. r)
+new-one κs a r r′ s s′ = same
+
+pub reset-one : OneAnswer {Seen = CrsfParser} reset.Post (λ κs r s. r)
+reset-one κs a r r′ s s′ = same
+
+pub held-len-one : OneAnswer {Seen = ℕ} held-len.Post (λ κs r s. r)
+held-len-one κs a r r′ s s′ = same
+
+pub shown-once : (p : CrsfParser) (input : List ℕ) {r r′ : Stepped} → Nexts p input r → Nexts p input r′ → shownOf r input ≡ shownOf r′ input
+shown-once p input = one-outcome 64 (p .buffer) (p .start) (p .end) input
+
+pub next-raw-packet-one : (κs : _) (a : _) (r r′ : _) (s s′ : _) → next-raw-packet.Post κs a r s → next-raw-packet.Post κs a r′ s′
+    → shownOf r (now (a .1 .0)) ≡ shownOf r′ (now (a .1 .0))
+next-raw-packet-one κs a r r′ s s′ = shown-once (a .0) (now (a .1 .0))

@@ -1,0 +1,2 @@
+pub mod Gps
+pub mod GpsExtended

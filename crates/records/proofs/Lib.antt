@@ -1,0 +1,5 @@
+pub mod Edges
+pub mod Told
+pub mod Laws
+pub mod BatteryLaws
+pub mod Unique

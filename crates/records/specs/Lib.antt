@@ -1,0 +1,4 @@
+pub mod LinkStatistics
+pub mod BaroAltitude
+pub mod Battery
+pub mod Edges

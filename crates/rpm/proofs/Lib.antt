@@ -1,0 +1,4 @@
+pub mod RunLaws
+pub mod RpmLaws
+pub mod Edges
+pub mod Unique

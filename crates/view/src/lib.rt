@@ -1,0 +1,67 @@
+// Parts of lent bytes: the frame that a call answered with, and a raw view of any bytes.
+use stream::step::Answer;
+ghost use mathlib.Core.Path.{_≡_};
+ghost use Rattle.base.specs.Parts.{part};
+ghost use Rattle.view.specs.View.{frameOf, rawOf, payloadOf};
+
+// The len bytes of s from place at on, as far as they are there.
+fn part_of(s: &[u8], at: usize, len: usize) -> &[u8]
+    ensures { λ r. ⌜ now r ≡ part (now (s .entry)) at len ⌝ }
+{
+    let n = s.len();
+    if n < at {
+        return &s[..0];
+    }
+    if n - at < len {
+        return &s[at..];
+    }
+    let stop = at + len;
+    &s[at..stop]
+}
+
+// The frame that a call answered with, as a part of the caller's piece or of the held bytes' places. Of any other answer, no bytes.
+pub fn frame<'a>(answer: Answer, piece: &'a [u8], places: &'a [u8]) -> &'a [u8]
+    ensures { λ r. ⌜ now r ≡ frameOf answer (now (piece .entry)) (now (places .entry)) ⌝ }
+{
+    match answer {
+        Answer::InPiece(len) => part_of(piece, 0, len),
+        Answer::InHeld { at, len } => part_of(places, at, len),
+        Answer::Stop => &piece[..0],
+        Answer::InvalidSync(_) => &piece[..0],
+        Answer::InvalidPacketLength(_) => &piece[..0],
+        Answer::InvalidCrc { .. } => &piece[..0],
+        Answer::BadState => &piece[..0],
+    }
+}
+
+// What any four bytes or more show as a frame. Nothing else is checked.
+pub enum RawView {
+    View { address: u8, kind: u8, check: u8 },
+    InvalidPayloadLength,
+}
+
+pub fn raw_view(s: &[u8]) -> RawView
+    ensures { λ r. ⌜ r ≡ rawOf (now (s .entry)) ⌝ }
+{
+    let n = s.len();
+    if n < 4 {
+        return RawView::InvalidPayloadLength;
+    }
+    RawView::View {
+        address: s[0],
+        kind: s[2],
+        check: s[n - 1],
+    }
+}
+
+// The bytes between byte 2 and the last, or none of fewer than four bytes.
+pub fn payload(s: &[u8]) -> &[u8]
+    ensures { λ r. ⌜ now r ≡ payloadOf (now (s .entry)) ⌝ }
+{
+    let n = s.len();
+    if n < 4 {
+        return &s[..0];
+    }
+    let last = n - 1;
+    &s[3..last]
+}
