@@ -9,8 +9,9 @@ use uf_crsf::packets::{write_packet_to_buffer, CrsfPacket};
 use uf_crsf::packets::{BaroAltitude, Battery, Gps, GpsExtended, LinkStatistics, RcChannelsPacked, Rpm};
 use uf_crsf::{CrsfParser, PacketAddress};
 
-const ROUNDS: usize = 41;
-const STREAM: usize = 200_000;
+const ROUNDS: usize = 151;
+/// Bytes of a stream: a round is short, so that some rounds of each side are left in peace by whatever else runs.
+const STREAM: usize = 60_000;
 
 /// Nanoseconds for each of `count` things: the Rust, ours.
 struct Row {
@@ -151,6 +152,20 @@ fn lend<T: Copy + Default, const N: usize>(read: impl FnOnce(&mut [T]) -> Answer
     answer
 }
 
+#[inline(never)]
+fn pack_rust(decimetres: i32) -> u16 {
+    BaroAltitude::get_altitude_packed(decimetres)
+}
+
+#[inline(never)]
+fn unpack_rust(packed: u16) -> i32 {
+    BaroAltitude { altitude_packed: packed, vertical_speed_packed: 0 }.get_altitude_dm()
+}
+
+fn sum<T: Copy>(inputs: &[T], each: impl Fn(T) -> u64) -> u64 {
+    inputs.iter().map(|x| each(black_box(*x))).fold(0, u64::wrapping_add)
+}
+
 fn rpm_of(f: &[i64]) -> Rpm {
     let values: Vec<i32> = (0..4).map(|i| f.get(1 + i).copied().unwrap_or(i as i64) as i32).collect();
     Rpm::new(f[0] as u8, &values).expect("four values are allowed")
@@ -215,15 +230,9 @@ pub fn run(emulated: bool, listing: Option<Listing>) {
         |b: &mut [u8], dest, r: &Rpm| ours::write_rpm(b, dest, r.rpm_source_id, r.rpm_values())
     );
     let heights: Vec<i32> = (0..MANY as i32).map(|i| i * 80 - 10_000).collect();
-    row(
-        "altitude packed and unpacked",
-        "value",
-        MANY,
-        || {
-            heights.iter().map(|d| BaroAltitude { altitude_packed: BaroAltitude::get_altitude_packed(black_box(*d)), vertical_speed_packed: 0 }.get_altitude_dm() as u64).fold(0, u64::wrapping_add)
-        },
-        || heights.iter().map(|d| ours::baro_decimetres(ours::pack_altitude(black_box(*d))) as u64).fold(0, u64::wrapping_add),
-    );
+    row("altitude packed", "value", MANY, || sum(&heights, |d| u64::from(pack_rust(d))), || sum(&heights, |d| u64::from(ours::pack_altitude(d))));
+    let words: Vec<u16> = (0..MANY as u16).map(|i| i.wrapping_mul(17)).collect();
+    row("altitude unpacked", "value", MANY, || sum(&words, |w| unpack_rust(w) as u64), || sum(&words, |w| ours::baro_decimetres(w) as u64));
     if let Some(listing) = listing {
         listing.row();
     }

@@ -148,7 +148,7 @@ impl<'a> Both<'a> {
         }
         self.state = [0xC8; 66];
         let got = ours::restore(&mut self.state, &form[..len]);
-        if got != Answer::default() {
+        if got != Answer::wrote(self.held) {
             return Err(Difference(format!("a restore of {} says {got:?}", hex(&form[..len]))));
         }
         self.same_held()

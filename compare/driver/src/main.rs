@@ -4,6 +4,7 @@ mod framing;
 mod gen;
 mod ours;
 mod queries;
+mod record;
 mod records;
 mod report;
 
@@ -16,20 +17,22 @@ struct Options {
     root: std::path::PathBuf,
     /// Whether both sides are timed, and not compared.
     bench: bool,
+    /// Where the sample of the Rust's answers is written, and nothing is compared.
+    record: Option<String>,
     /// The emulator's command, where one runs this.
     emulator: Vec<String>,
     /// The port's listing program.
     list: Option<String>,
 }
 
-const USAGE: &str = "compare/run [--seed N] [--bytes N] [--bench] [--rust DIR] [--archive DIR]";
+const USAGE: &str = "compare/run [--seed N] [--bytes N] [--bench] [--record FILE] [--rust DIR] [--archive DIR]";
 
 fn number(text: &str) -> u64 {
     text.parse::<f64>().ok().filter(|n| *n >= 0.0).unwrap_or_else(|| panic!("{text} is no number; usage: {USAGE}")) as u64
 }
 
 fn options() -> Options {
-    let mut o = Options { seed: 1, bytes: 20_000_000, root: ".".into(), bench: false, emulator: vec![], list: None };
+    let mut o = Options { seed: 1, bytes: 20_000_000, root: ".".into(), bench: false, record: None, emulator: vec![], list: None };
     let mut words = std::env::args().skip(1);
     while let Some(word) = words.next() {
         let mut next = || words.next().unwrap_or_else(|| panic!("{word} wants a value; usage: {USAGE}"));
@@ -41,6 +44,7 @@ fn options() -> Options {
             "--bytes" => o.bytes = number(&next()),
             "--root" => o.root = next().into(),
             "--bench" => o.bench = true,
+            "--record" => o.record = Some(next()),
             "--emulator" => o.emulator = next().split(' ').map(String::from).collect(),
             "--list" => o.list = Some(next()),
             other => panic!("{other}? usage: {USAGE}"),
@@ -65,6 +69,11 @@ fn main() {
     let how = if o.emulator.is_empty() { "" } else { " (emulated)" };
     if o.bench {
         return bench::run(!o.emulator.is_empty(), listing(&o));
+    }
+    if let Some(file) = &o.record {
+        let (sample, cases) = record::sample(o.seed);
+        std::fs::write(file, &sample).unwrap_or_else(|e| panic!("{file}: {e}"));
+        return println!("seed {}: {cases} of the Rust's answers, {} bytes, written to {file}", o.seed, sample.len());
     }
     println!("seed {}, {} bytes of random streams{how}", o.seed, o.bytes);
     let differences = o.root.join("docs/DIFFERENCES.md");

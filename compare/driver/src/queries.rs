@@ -125,7 +125,7 @@ fn bad_states(report: &mut Report, r: &mut Rng) {
                 let got = ours::restore(&mut state, &form);
                 let (start, end) = (usize::from(state[0]), usize::from(state[1]));
                 let as_said = if good { state[2..].get(start..end) == Some(&form[1..]) } else { state == [0xEE; 66] };
-                f.same((if good { Answer::default() } else { refused }, true), (got, as_said), || format!("a restore of {}", hex(&form)));
+                f.same((if good { Answer::wrote(count) } else { refused }, true), (got, as_said), || format!("a restore of {}", hex(&form)));
             }
         }
         for form in [&[0x80, 0x00][..], &[0x81, 0x00, 0xC8], &[0x80, 0x80, 0x00], &[0x81, 0x80, 0x00, 0xC8]] {

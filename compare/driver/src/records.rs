@@ -221,7 +221,7 @@ pub fn number_of(refusal: CrsfParsingError) -> u8 {
 }
 
 impl Record {
-    fn is_rpm(&self) -> bool {
+    pub fn is_rpm(&self) -> bool {
         self.name == "RPM"
     }
 
