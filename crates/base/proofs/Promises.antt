@@ -4,6 +4,7 @@ use mathlib.Core.List.{List}
 use Prim.Native.Nat.{ℕ}
 use denote.Ref.{now}
 use Rattle.base.proofs.Unique.{OneAnswer, same}
+use Rattle.base.proofs.byte_at.Reads as byte-at
 use Rattle.base.proofs.copy_in.Reads as copy-in
 use Rattle.base.proofs.wide.Reads as wide
 
@@ -12,3 +13,6 @@ copy-in-one κs a r r′ s s′ = same
 
 pub wide-one : OneAnswer {Seen = ℕ} wide.Post (λ κs r s. r)
 wide-one κs a r r′ s s′ p q = same (p .0) (q .0)
+
+pub byte-at-one : OneAnswer {Seen = ℕ} byte-at.Post (λ κs r s. r)
+byte-at-one κs a r r′ s s′ = same

@@ -1,7 +1,7 @@
-// What every crate above needs of lists and tests stands in specs/ and proofs/; and the one copy of bytes from a slice to a slice.
+// What every crate above needs: of lists and tests in specs/ and proofs/; and the one copy of bytes, a byte as a number, and a byte that may be lacking.
 ghost use mathlib.Core.Path.{_≡_};
 ghost use Prim.Native.Nat.{_+_, _≤_, _<_};
-ghost use lib.ListN.{length};
+ghost use lib.ListN.{length, getD};
 ghost use lib.Seq.{paste};
 
 // The first count bytes of src go to dst, from place at on. The bytes beside stay.
@@ -21,4 +21,14 @@ pub fn wide(b: u8) -> usize
     ensures { λ r. ⌜ (r ≡ b) × (r < 256) ⌝ }
 {
     b as usize
+}
+
+// The byte at place i, or 0 where none is.
+pub fn byte_at(s: &[u8], i: usize) -> u8
+    ensures { λ r. ⌜ r ≡ getD (now (s .entry)) i 0 ⌝ }
+{
+    if i < s.len() {
+        return s[i];
+    }
+    0
 }

@@ -1,13 +1,13 @@
 -- Document 01, "Record layouts", of channels: all 22-byte strings are images, each of one set, so reading after writing and writing after reading
 -- change nothing.
 -- Assumes nothing.
-use mathlib.Core.Path.{_≡_, refl, sym, ap, _∙_, subst}
-use mathlib.Core.List.{List, [], _∷_, _++_}
+use mathlib.Core.Path.{_≡_, ap, _∙_, subst}
+use mathlib.Core.List.{List, _++_}
 use mathlib.Core.Logic.{⊎-elim}
 use Prim.Native.Nat.{ℕ, _+_, _≤_, _<_}
 use native.Mathlib.Omega.{arith}
 use borrow.Author.Tests.{le-ltb, lt-ltb}
-use lib.ListN.{length, take, length-append}
+use lib.ListN.{length, length-append}
 use lib.Seq.{take-at, take-all}
 use Rattle.base.proofs.Tests.{below}
 use Rattle.base.specs.Bytes.{Bytes}
@@ -17,7 +17,6 @@ use Rattle.layout.specs.declared.ReadAnswer.the-variants.{Record}
 use Rattle.channels.specs.Digits.{number, digits, Below}
 use Rattle.channels.specs.Channels.{channelsOf, bytesOf, channelsRead, firstAbove, channelsImage}
 use Rattle.channels.specs.declared.RcChannelsPacked.{RcChannelsPacked}
-use Rattle.channels.specs.declared.ChannelsRead.{ChannelsRead}
 use Rattle.channels.proofs.Digits.{there-and-back, length-digits, digits-below}
 use Rattle.channels.proofs.FirstAbove.{none-above, not-above}
 

@@ -1,7 +1,7 @@
 -- Every case of the table is as document 01 says.
 -- Assumes nothing.
 use mathlib.Core.Path.{refl}
-use Rattle.numbers.specs.BigEndian.{beOf, bytesOf}
+use Rattle.numbers.specs.BigEndian.{bytesOf}
 use Rattle.numbers.specs.TwosComplement.{twosOf}
 use Rattle.packets.specs.Listed.{listed}
 use Rattle.crc.specs.Remainder.{remainder, remainderFrom, afterByte, shifts, shiftBit}
@@ -15,21 +15,26 @@ use Rattle.records.specs.Battery.{batteryValues}
 use Rattle.edges.specs.Edges.{AllHold, table}
 
 pub all-hold : AllHold table
-unfolding listed remainder remainderFrom afterByte shifts shiftBit number values drops reading readingPast first goodLength passes bytesOf twosOf
-    digits.number digits firstAbove channelsImage packOf batteryValues
+unfolding listed remainder remainderFrom afterByte shifts shiftBit number values drops reading readingPast first goodLength passes bytesOf twosOf digits.number digits firstAbove channelsImage packOf batteryValues
 all-hold = (
-  (refl, refl),
+  refl,
   (
-    (refl, refl),
+    refl,
     (
-      (refl, refl),
+      refl,
       (
-        (refl, refl),
+        refl,
         (
-          (refl, refl),
+          refl,
           (
-            (refl, refl),
-            (refl, (refl, (refl, (refl, (refl, (refl, (refl, (refl, tt)))))))),
+            refl,
+            (
+              refl,
+              (
+                refl,
+                (refl, (refl, (refl, (refl, (refl, (refl, (refl, (refl, tt)))))))),
+              ),
+            ),
           ),
         ),
       ),

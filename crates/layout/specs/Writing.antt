@@ -8,12 +8,15 @@ use lib.ListN.{length}
 use Rattle.base.specs.Choice.{if_then_else_}
 use Rattle.base.specs.Parts.{pasted}
 use Rattle.layout.specs.declared.Written.{Written}
-use Rattle.layout.specs.declared.Written.the-variants.{Wrote, InvalidPayloadLength, BufferOverflow, ChannelRange, BadAddress}
+use Rattle.layout.specs.declared.Written.the-variants as written
+use Rattle.layout.specs.declared.Written.the-variants.{Wrote, BufferOverflow, ChannelRange, BadAddress}
+use Rattle.layout.specs.declared.ReadAnswer.{ReadAnswer}
+use Rattle.layout.specs.declared.ReadAnswer.the-variants.{Record, InvalidPayloadLength}
 
 -- the number of the refusal, and 0 for a write
 unfoldable pub number : Written → ℕ
 number (Wrote n) = 0
-number InvalidPayloadLength = 4
+number written.InvalidPayloadLength = 4
 number BufferOverflow = 5
 number (ChannelRange i) = 6
 number BadAddress = 7
@@ -21,10 +24,15 @@ number BadAddress = 7
 -- what the answer carries
 unfoldable pub values : Written → List ℕ
 values (Wrote n) = n ∷ []
-values InvalidPayloadLength = []
+values written.InvalidPayloadLength = []
 values BufferOverflow = []
 values (ChannelRange i) = i ∷ []
 values BadAddress = []
+
+-- a reader's number: 0 for a record, and 4; it carries nothing but the record beside it
+unfoldable pub readNumber : ReadAnswer → ℕ
+readNumber Record = 0
+readNumber InvalidPayloadLength = 4
 
 -- what there is to write: bytes, or the refusal that is answered instead, whatever the buffer
 pub data Image : Type 0 where

@@ -2,12 +2,15 @@
 use parser::CrsfParser;
 use parser::held_len;
 use parser::lent::lend;
+use parser::lent::restart;
 use stream::step::Answer;
+use view::frame;
 ghost use Prim.Native.Nat.{_≤_};
 
 struct Sum {
     parser: CrsfParser,
     frames: u64,
+    bytes: u64,
     refusals: u64,
 }
 
@@ -37,22 +40,26 @@ fn is_more(kind: Kind) -> bool {
     }
 }
 
-fn counted(frames: u64, refusals: u64, parser: CrsfParser, kind: Kind) -> Sum {
+// The counts with one answer more, whose frame has so many bytes.
+fn counted(sum: Sum, parser: CrsfParser, kind: Kind, len: u64) -> Sum {
     match kind {
         Kind::More => Sum {
             parser,
-            frames,
-            refusals,
+            frames: sum.frames,
+            bytes: sum.bytes,
+            refusals: sum.refusals,
         },
         Kind::Frame => Sum {
             parser,
-            frames: std::num::wrapping_add_u64(frames, 1),
-            refusals,
+            frames: std::num::wrapping_add_u64(sum.frames, 1),
+            bytes: std::num::wrapping_add_u64(sum.bytes, len),
+            refusals: sum.refusals,
         },
         Kind::Refusal => Sum {
             parser,
-            frames,
-            refusals: std::num::wrapping_add_u64(refusals, 1),
+            frames: sum.frames,
+            bytes: sum.bytes,
+            refusals: std::num::wrapping_add_u64(sum.refusals, 1),
         },
     }
 }
@@ -64,13 +71,16 @@ fn feed(start: Sum, piece: &[u8]) -> Sum {
     let mut left: usize = 5000;
     while 0 < left {
         let p = sum.parser;
-        let out = lend(p, &piece[at..]);
+        let rest = &piece[at..];
+        let out = lend(p, rest);
         let parser = out.parser;
         let answered = out.answered;
         let answer = answered.answer;
         let kind = kind_of(answer);
+        let places = parser.buffer;
+        let len = frame(answer, rest, &places).len() as u64;
         at += answered.taken;
-        sum = counted(sum.frames, sum.refusals, parser, kind);
+        sum = counted(sum, parser, kind, len);
         if is_more(kind) {
             return sum;
         }
@@ -86,13 +96,16 @@ fn least(a: usize, b: usize) -> usize
     if a < b { a } else { b }
 }
 
-fn feed_all(input: &[u8], size: usize) -> Sum
+// A new stream, whatever the parser held before.
+fn feed_all(before: CrsfParser, input: &[u8], size: usize) -> Sum
     requires { ⌜ 1 ≤ size ⌝ }
 {
-    let parser = parser::new();
+    let out = restart(before, &input[..0]);
+    let parser = out.parser;
     let mut sum = Sum {
         parser,
         frames: 0,
+        bytes: 0,
         refusals: 0,
     };
     let mut at = 0;
@@ -104,29 +117,32 @@ fn feed_all(input: &[u8], size: usize) -> Sum
     sum
 }
 
-fn report(input: &[u8], size: usize)
+fn report(before: CrsfParser, input: &[u8], size: usize) -> CrsfParser
     requires { ⌜ 1 ≤ size ⌝ }
 {
-    let sum = feed_all(input, size);
+    let sum = feed_all(before, input, size);
     io::print_decimal(1, size as u64);
     io::write_all(1, b": ");
     io::print_decimal(1, sum.frames);
-    io::write_all(1, b" frames, ");
+    io::write_all(1, b" frames of ");
+    io::print_decimal(1, sum.bytes);
+    io::write_all(1, b" bytes, ");
     io::print_decimal(1, sum.refusals);
     io::write_all(1, b" refusals, ");
     let p = sum.parser;
     io::print_decimal(1, held_len(p) as u64);
     io::write_all(1, b" held\n");
+    p
 }
 
 fn main() {
     let mut buf = io::buffer();
     let n = io::read_full(0, &mut buf);
-    report(&buf[..n], 1);
-    report(&buf[..n], 2);
-    report(&buf[..n], 3);
-    report(&buf[..n], 7);
-    report(&buf[..n], 16);
-    report(&buf[..n], 64);
-    report(&buf[..n], 4096);
+    let a = report(parser::new(), &buf[..n], 1);
+    let b = report(a, &buf[..n], 2);
+    let c = report(b, &buf[..n], 3);
+    let d = report(c, &buf[..n], 7);
+    let e = report(d, &buf[..n], 16);
+    let f = report(e, &buf[..n], 64);
+    report(f, &buf[..n], 4096);
 }

@@ -27,7 +27,8 @@ use Rattle.parser.proofs.Unique.{shown-once}
 use Rattle.parser.proofs.CrsfParser.reset as reset
 use Rattle.parser.proofs.CrsfParser.next_raw_packet as next
 use Rattle.parser.proofs.CrsfParser.held_len as held-len
-use Rattle.parser.proofs.lent.lend as lend
+use Rattle.parser.proofs.lent.lend.Reads as lend
+use Rattle.parser.proofs.lent.restart.Reads as restart
 
 module _ {M : Type 1} (𝓤 : URA M) (H : Heap 𝓤) (A : Atoms 𝓤) (mem : Memory → SProp 𝓤) (run : Routine → Fun 𝓤) where
   pub reset-states : (κs : Lfts 1) (a : _) (r : _) (s : _) → reset.clauses 𝓤 H A mem run κs a .ensures tt r s ≡ fact 𝓤 (now (s .0) ≡ resetOf (now (a .0)))
@@ -39,9 +40,6 @@ module _ {M : Type 1} (𝓤 : URA M) (H : Heap 𝓤) (A : Atoms 𝓤) (mem : Mem
 
   pub held-len-states : (κs : Lfts 1) (a : _) (r : ℕ) (s : _) → held-len.clauses 𝓤 H A mem run κs a .ensures tt r s ≡ fact 𝓤 (r ≡ heldCount (now (a .0)))
   held-len-states κs a r s = refl
-
-  pub lend-states : (κs : Lfts 1) (a : _) (r : Stepped) (s : _) → lend.clauses 𝓤 H A mem run κs a .ensures tt r s ≡ fact 𝓤 (Nexts (a .0) (now (a .1 .0)) r)
-  lend-states κs a r s = refl
 
 -- two parsers at exit, and two results, that these allow
 module _ (p : CrsfParser) where
@@ -55,8 +53,13 @@ module _ (p : CrsfParser) where
       → shownOf (stepped q a) input ≡ shownOf (stepped q′ a′) input
   lent-next-one input q q′ a a′ = shown-once p input
 
-  pub lend-one : (input : List ℕ) (r r′ : Stepped) → Nexts p input r → Nexts p input r′ → shownOf r input ≡ shownOf r′ input
-  lend-one input r r′ = shown-once p input
+-- the functions with plain parameters
+pub lend-one : (κs : _) (a : _) (r r′ : Stepped) (s s′ : _) → lend.Post κs a r s → lend.Post κs a r′ s′ → shownOf r (now (a .1 .0)) ≡ shownOf r′ (now (a .1 .0))
+lend-one κs a r r′ s s′ = shown-once (a .0) (now (a .1 .0))
+
+pub restart-one : (κs : _) (a : _) (r r′ : Stepped) (s s′ : _) → restart.Post κs a r s → restart.Post κs a r′ s′
+    → shownOf r (now (a .1 .0)) ≡ shownOf r′ (now (a .1 .0))
+restart-one κs a r r′ s s′ = shown-once (resetOf (a .0)) (now (a .1 .0))
 
 -- a call on a lent parser is a step of a history
 pub lent-goes-on : {stream : List ℕ} {p q : CrsfParser} {a : Answered} {given : List reading.Answer} (input later : List ℕ)

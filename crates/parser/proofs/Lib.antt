@@ -5,4 +5,5 @@ pub mod Unique
 pub mod Walk
 pub mod InPlace
 pub mod Structs
+pub mod Lending
 pub mod LentUnique

@@ -4,16 +4,10 @@ use mathlib.Core.List.{List, _++_}
 use Prim.Native.Nat.{ℕ, _+_, _-_, _≤_, _<_}
 use native.Mathlib.Omega.{arith}
 use native.Mathlib.Nat.{zero-add, sub-zero}
-use native.Mathlib.Numerals.{add-one}
 use lib.ListN.{length, take, drop, getD, set, length-drop, length-take, List·getD-append}
-use lib.Seq.{paste, paste-suc, length-take-le, getD-append-add, getD-drop, getD-take, take-paste, drop-append-le, take-at, take-length, drop-drop}
-use Rattle.base.proofs.Parts.{drop-take}
+use lib.Seq.{paste, length-take-le, getD-append-add, getD-drop, getD-take, take-paste, drop-append-le, take-at, take-length, drop-drop}
+use Rattle.base.proofs.Parts.{paste-more, drop-take}
 use Rattle.stream.specs.Places.{heldIn}
-
--- one turn of a copy from place at on: the code's store, with the code's i + 1
-pub paste-more : (d : List ℕ) (at : ℕ) (s : List ℕ) (i : ℕ) → at + i < length d → i < length s
-    → set (paste d at s i) (at + i) (getD s i 0) ≡ paste d at s (i + 1)
-paste-more d at s i hd hs = rw add-one (paste-suc d at s i 0 hd hs)
 
 module _ (d : List ℕ) (start i : ℕ) (inside : start + i < length d) where
   -- a move to the front reads a place that it has not yet written

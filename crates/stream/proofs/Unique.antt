@@ -25,8 +25,6 @@ use Rattle.stream.specs.declared.step.Answer.the-variants.{Stop, InPiece
 use Rattle.stream.specs.declared.step.Answered.{Answered}
 use Rattle.stream.specs.declared.step.Moved.{Moved}
 use Rattle.stream.proofs.Held.{length-held}
-use Rattle.stream.proofs.candidate.wide.Reads as wide
-use Rattle.stream.proofs.places.copy_in.Reads as copy-in
 use Rattle.stream.proofs.step.step_in.Reads as step-in
 use Rattle.stream.proofs.lent.step_lent.Reads as step-lent
 
@@ -135,12 +133,6 @@ one-seen m before start end input full a b =
     by-test (isSpan m start end)
     (λ good. same (seen-is (a .same ∙ full) (a .moves good)) (seen-is (b .same ∙ full) (b .moves good)))
     (λ bad. ap₂ seen (same (a .refuses bad .0) (b .refuses bad .0)) (same (a .refuses bad .1) (b .refuses bad .1)))
-
-pub wide-one : OneAnswer {Seen = ℕ} wide.Post (λ κs r s. r)
-wide-one κs a r r′ s s′ p q = same (p .0) (q .0)
-
-pub copy-in-one : OneAnswer {Seen = List ℕ} copy-in.Post (λ κs r s. now (s .0))
-copy-in-one κs a r r′ s s′ = same
 
 pub step-in-one : OneAnswer {Seen = Seen} step-in.Post (λ κs r s. seen r (now (s .0)))
 step-in-one κs a r r′ s s′ = one-seen _ (now (a .0)) (a .1 .0) (a .1 .1 .0) (now (a .1 .1 .1 .0)) refl

@@ -1,8 +1,8 @@
 // The same call over 66 lent bytes: start, end, then the 64 places.
-use crate::candidate::wide;
 use crate::step::Answer;
 use crate::step::Answered;
 use crate::step::step_in;
+use base::wide;
 ghost use mathlib.Core.Path.{_≡_};
 ghost use Prim.Native.Nat.{_<_};
 ghost use Rattle.stream.specs.Lent.{Lends};

@@ -1,8 +1,8 @@
 // One call of the stream, over lent places.
-use crate::candidate::byte_at;
 use crate::candidate::reach;
 use crate::places::append;
-use crate::places::copy_in;
+use base::byte_at;
+use base::copy_in;
 use crc::Check;
 use crc::checked;
 ghost use mathlib.Core.Path.{_≡_};

@@ -1,2 +1,3 @@
 pub mod Pointed
+pub mod Raw
 pub mod Unique

@@ -1,6 +1,6 @@
 -- `channels::RcChannelsPacked::from_bytes` meets its contract. The invariant: the first i channels are written, and the others are still 0.
 -- Assumes nothing.
-use mathlib.Core.Path.{_≡_, refl, sym, ap, _∙_}
+use mathlib.Core.Path.{_≡_, sym, ap, _∙_}
 use mathlib.Core.List.{List, _++_, append-nil}
 use Prim.Native.Nat.{ℕ, _-_, _≤_}
 use native.Mathlib.Omega.{arith}
@@ -26,10 +26,10 @@ abbrev μ-loop : tie.MeasureT-loop
 
 returns : tie.Need-returns Inv-loop μ-loop
 unfolding channelsRead
-returns c = simp (lt-ltb _ _ (c .if1 .taken))
+returns c = simp (lt-ltb (length (c .before .before .args .payload .now)) 22 (omega arith))
 
 slice-aggregate-whole : tie.Need-slice-aggregate-whole Inv-loop μ-loop
-slice-aggregate-whole c = sym (length-take-le 22 (c .before .before .before .args .payload .now) (c .before .if1 .left))
+slice-aggregate-whole c = sym (length-take-le 22 (c .before .before .before .args .payload .now) (omega arith))
 
 loop-holds : tie.Need-loop-holds Inv-loop μ-loop
 loop-holds c = (omega arith, fill-start (channelsOf (take 22 (c .before .before .before .args .payload .now))) (replicate 16 0) 0)
@@ -70,7 +70,7 @@ returns-2 c =
     let s = channelsOf (take 22 payload) in
     let long : length s ≡ 16 = length-digits 11 16 (number 8 (take 22 payload)) in
     let all : at-loop .loop .i ≡ 16 = omega arith in
-    rw (le-ltb (length payload) 22 (at-loop .before .before .if1 .left))
+    rw (le-ltb (length payload) 22 (omega arith))
     (ap (λ (l : List ℕ). record { answer = Record; channels = record { 0 = l } })
     (at-loop .loop .inv .1 ∙ ap (filling s (replicate 16 0) 0) all ∙ ap (pasted (replicate 16 0) 0) (take-all 16 s (omega arith))
     ∙ pasted-front (replicate 16 0) s ∙ ap (λ (n : ℕ). s ++ drop n (replicate 16 0)) long ∙ append-nil s))

@@ -23,7 +23,7 @@ Start-of c = c .before .before .before .before .before
 
 -- past the first test no channel is above 2047
 good : (c : tie.Else1) → 16 ≤ firstAbove (Start-of c .args .self .0)
-good c = rw (← (c .before .first-above .ensures)) (c .if1 .left)
+good c = omega (arith, c .before .first-above .ensures)
 
 in-range : (c : tie.Else1) → Below 11 (Start-of c .args .self .0)
 in-range c =
@@ -43,13 +43,13 @@ returns : tie.Need-returns
 returns c =
     let start = c .before .before .before .before .before in
     let found = c .before .first-above .ensures in
-    rw (image-refused (start .args .self) (rw (← found) (c .if1 .taken)), found) (refuses _ (start .args .buffer .now))
+    rw (image-refused (start .args .self) (omega (arith, found)), found) (refuses _ (start .args .buffer .now))
 
 returns-2 : tie.Need-returns-2
 returns-2 c =
     let start = Start-of (c .before) .args in
     rw (image-bytes (start .self) (good (c .before)))
-    (overflows (bytesOf (start .self .0)) (start .buffer .now) 22 (wrote (c .before)) (c .if2 .taken))
+    (overflows (bytesOf (start .self .0)) (start .buffer .now) 22 (wrote (c .before)) (omega arith))
 
 slice-aggregate-put-group : tie.Need-slice-aggregate-put-group
 slice-aggregate-put-group c = search needs
@@ -76,9 +76,9 @@ returns-3 c =
     let d : List ℕ = start .buffer .now in
     let s : List ℕ = bytesOf (start .self .0) in
     let stored : second .put-group2 .last .0 ≡ pasted d 0 s =
-    rw (second .put-group2 .ensures, first .put-group .ensures) (two-halves s d 11 (wrote right) (room .if2 .left)) in
+    rw (second .put-group2 .ensures, first .put-group .ensures) (two-halves s d 11 (wrote right) (omega arith)) in
     rw (image-bytes (start .self) (good right))
-    (ap (λ (l : List ℕ). (Wrote 22, l)) stored ∙ writes s d 22 (wrote right) (room .if2 .left))
+    (ap (λ (l : List ℕ). (Wrote 22, l)) stored ∙ writes s d 22 (wrote right) (omega arith))
 
 pub to-bytes-spec : {M : Type 1} → statement M
 to-bytes-spec =
