@@ -10,7 +10,6 @@ use lib.Seq.{drop-drop}
 use Rattle.reading.specs.Answer.{Answer, drops}
 use Rattle.reading.specs.Reading.{First, stop, says, first, Reading, reading}
 use Rattle.reading.specs.Call.{Call, call, droppedBy}
-use Rattle.reading.specs.Counts.{total}
 use Rattle.reading.specs.History.{answered, History, ask}
 use Rattle.reading.proofs.First.{stands}
 use Rattle.reading.proofs.Reading.{at-stop, at-says}
@@ -20,7 +19,7 @@ use Rattle.parser.specs.declared.CrsfParser.{CrsfParser}
 use Rattle.drain.specs.declared.Drained.{Drained}
 use Rattle.drain.specs.declared.End.the-variants.{AsksForMore, BudgetSpent}
 use Rattle.parser.specs.Parser.{heldBy, isState}
-use Rattle.drain.specs.Drain.{framesOf, refusalsOf, Tally, more, drainOf, tallied, tallyOf, Drains}
+use Rattle.drain.specs.Drain.{framesOf, refusalsOf, total, Tally, more, drainOf, tallied, tallyOf, Drains}
 use Rattle.drain.proofs.Drains.{tally-eq, none-left, drain-stop, drain-says}
 use Rattle.parser.proofs.Held.{call-takes}
 

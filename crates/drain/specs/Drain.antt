@@ -3,12 +3,11 @@
 use Prim.Native.Nat.{ℕ, zero, suc, _+_}
 use mathlib.Core.Path.{_≡_}
 use mathlib.Core.Bool.{Bool, true, false}
-use mathlib.Core.List.{List}
+use mathlib.Core.List.{List, [], _∷_}
 use lib.ListN.{drop}
 use Rattle.reading.specs.Answer as reading
 use Rattle.reading.specs.Reading.{stop, says, Reading, reading}
 use Rattle.reading.specs.Call.{call}
-use Rattle.reading.specs.Counts.{total}
 use Rattle.stream.specs.declared.step.Answer.{Answer}
 use Rattle.stream.specs.declared.step.Answer.the-variants.{Stop, InPiece, InHeld, InvalidSync, InvalidPacketLength, InvalidCrc, BadState}
 use Rattle.parser.specs.declared.CrsfParser.{CrsfParser}
@@ -17,7 +16,7 @@ use Rattle.drain.specs.declared.End.the-variants.{AsksForMore, BudgetSpe
 use Rattle.drain.specs.declared.Drained.{Drained}
 use Rattle.parser.specs.Parser.{heldBy, isState}
 
--- ---- What is counted: by the reading, and by the code
+-- ---- What is counted of an answer: by the reading, and by the code
 unfoldable pub framesOf : reading.Answer → ℕ
 framesOf (reading.InvalidSync c) = 0
 framesOf (reading.InvalidPacketLength c) = 0
@@ -29,6 +28,11 @@ refusalsOf (reading.InvalidSync c) = 1
 refusalsOf (reading.InvalidPacketLength c) = 1
 refusalsOf (reading.InvalidCrc c) = 1
 refusalsOf (reading.Frame c) = 0
+
+-- so many in all
+abbrev pub total : (reading.Answer → ℕ) → List reading.Answer → ℕ
+total f [] = 0
+total f (a ∷ more) = f a + total f more
 
 abbrev pub asksIn : Answer → Bool
 asksIn Stop = true

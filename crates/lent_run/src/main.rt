@@ -135,14 +135,18 @@ fn report(before: CrsfParser, input: &[u8], size: usize) -> CrsfParser
     p
 }
 
+fn report_all(input: &[u8]) {
+    let a = report(parser::new(), input, 1);
+    let b = report(a, input, 2);
+    let c = report(b, input, 3);
+    let d = report(c, input, 7);
+    let e = report(d, input, 16);
+    let f = report(e, input, 64);
+    report(f, input, 4096);
+}
+
 fn main() {
     let mut buf = io::buffer();
     let n = io::read_full(0, &mut buf);
-    let a = report(parser::new(), &buf[..n], 1);
-    let b = report(a, &buf[..n], 2);
-    let c = report(b, &buf[..n], 3);
-    let d = report(c, &buf[..n], 7);
-    let e = report(d, &buf[..n], 16);
-    let f = report(e, &buf[..n], 64);
-    report(f, &buf[..n], 4096);
+    report_all(&buf[..n]);
 }

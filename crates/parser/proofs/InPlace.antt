@@ -5,7 +5,7 @@
 --     ended, clauses   f's signature, and its contract with the promise ψ.        gended, gclauses     g's.        body     f's MIR
 --     in-place         f meets its contract, if g meets its own and φ gives ψ
 -- The borrow is opened, the struct is copied out of its cell whole, g is called on the copy and the slice, the new struct is stored over the old one, and the borrow is closed at it. The slice is Copy: one copy goes to the callee, and one is kept for the exit.
--- Nothing here speaks of this crate, and it can be copied as it stands. Assumes nothing.
+-- Nothing here speaks of this crate, and other crates cite it. Assumes nothing.
 use mathlib.Core.Path.{_≡_, refl, _∙_, subst}
 use Prim.Native.Nat.{ℕ}
 use mathlib.Core.List.{[], _∷_, List}

@@ -3,12 +3,13 @@
 use mathlib.Core.Path.{_≡_}
 use mathlib.Core.List.{List}
 use Prim.Native.Nat.{ℕ}
+use lib.ListN.{length}
 use denote.Ref.{now}
 use Rattle.base.proofs.Unique.{OneAnswer, same}
-use Rattle.stream.proofs.Unique.{one-outcome}
+use Rattle.stream.proofs.Unique.{one-seen}
 use Rattle.parser.specs.declared.CrsfParser.{CrsfParser}
 use Rattle.parser.specs.declared.Stepped.{Stepped}
-use Rattle.parser.specs.Parser.{shownOf, Nexts}
+use Rattle.parser.specs.Parser.{seenOf, Nexts}
 use Rattle.parser.proofs.new.Reads as new
 use Rattle.parser.proofs.reset.Reads as reset
 use Rattle.parser.proofs.held_len.Reads as held-len
@@ -23,9 +24,10 @@ reset-one κs a r r′ s s′ = same
 pub held-len-one : OneAnswer {Seen = ℕ} held-len.Post (λ κs r s. r)
 held-len-one κs a r r′ s s′ = same
 
-pub shown-once : (p : CrsfParser) (input : List ℕ) {r r′ : Stepped} → Nexts p input r → Nexts p input r′ → shownOf r input ≡ shownOf r′ input
-shown-once p input = one-outcome 64 (p .buffer) (p .start) (p .end) input
+-- of a call: what is said, a frame's bytes, how many bytes were taken, how many and which are held, and of a refused state all
+pub seen-once : (p : CrsfParser) (input : List ℕ) {r r′ : Stepped} → length (p .buffer) ≡ 64 → Nexts p input r → Nexts p input r′ → seenOf r ≡ seenOf r′
+seen-once p input = one-seen 64 (p .buffer) (p .start) (p .end) input
 
 pub next-raw-packet-one : (κs : _) (a : _) (r r′ : _) (s s′ : _) → next-raw-packet.Post κs a r s → next-raw-packet.Post κs a r′ s′
-    → shownOf r (now (a .1 .0)) ≡ shownOf r′ (now (a .1 .0))
-next-raw-packet-one κs a r r′ s s′ = shown-once (a .0) (now (a .1 .0))
+    → length (a .0 .buffer) ≡ 64 → seenOf r ≡ seenOf r′
+next-raw-packet-one κs a r r′ s s′ p q full = seen-once (a .0) (now (a .1 .0)) full p q

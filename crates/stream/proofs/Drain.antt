@@ -13,8 +13,6 @@ use Rattle.reading.specs.Answer.{number, values, drops, row}
 use Rattle.reading.specs.Reading.{First, stop, says}
 use Rattle.reading.specs.Call.{call, droppedBy}
 use Rattle.reading.specs.History.{answered}
-use Rattle.reading.specs.Tally.{count}
-use Rattle.reading.proofs.Tally.{count-append}
 use Rattle.reading.proofs.Call.{leaves, answers-first}
 use Rattle.reading.proofs.First.{stands}
 use Rattle.stream.specs.Places.{heldIn}
@@ -101,13 +99,9 @@ module _ {m : ℕ} {before : List ℕ} {start end : ℕ} {input after : List ℕ
   pub rows : map row (answered (call m held input .answer)) ≡ rowsOf (r .answer) input after
   rows = sym (said-rows (ltb 0 (length held)) (call m held input .answer)) ∙ ap rowsSaid (sym said-is)
 
-  -- and so what it adds to a listing of those given, and to any count over it: `frames` and `refusals` are two
+  -- and so what it adds to a listing of those given
   pub rows-on : (given : List reading.Answer) → map row (given ++ answered (call m held input .answer)) ≡ map row given ++ rowsOf (r .answer) input after
   rows-on given = map-append row given (answered (call m held input .answer)) ∙ ap (λ (x : List (List ℕ)). map row given ++ x) rows
-
-  pub count-on : (test : List ℕ → Bool) (given : List reading.Answer)
-      → count test (map row (given ++ answered (call m held input .answer))) ≡ count test (map row given) + count test (rowsOf (r .answer) input after)
-  count-on test given = ap (count test) (rows-on given) ∙ count-append test (map row given) (rowsOf (r .answer) input after)
 
   -- a call that answers leaves fewer bytes held and unread
   module _ (full : length before ≡ m) (kept : length after ≡ m) (low : start ≤ end) (high : end ≤ m) where

@@ -17,14 +17,14 @@ abbrev μ-loop : tie.MeasureT-loop
 loop-holds : tie.Need-loop-holds Inv-loop μ-loop
 loop-holds c = search needs
 
-sub-lend : tie.Need-sub-lend Inv-loop μ-loop
-sub-lend c = search needs
+sub-rest : tie.Need-sub-rest Inv-loop μ-loop
+sub-rest c = search needs
 
-part-lend-start : tie.Need-part-lend-start Inv-loop μ-loop
-part-lend-start c = search needs
+part-rest-start : tie.Need-part-rest-start Inv-loop μ-loop
+part-rest-start c = search needs
 
-part-lend-end : tie.Need-part-lend-end Inv-loop μ-loop
-part-lend-end c = search needs
+part-rest-end : tie.Need-part-rest-end Inv-loop μ-loop
+part-rest-end c = search needs
 
 lend-requires : tie.Need-lend-requires Inv-loop μ-loop
 lend-requires c κs = search needs
@@ -32,9 +32,15 @@ lend-requires c κs = search needs
 kind-of-requires : tie.Need-kind-of-requires Inv-loop μ-loop
 kind-of-requires c κs = search needs
 
+slice-aggregate-frame : tie.Need-slice-aggregate-frame Inv-loop μ-loop
+slice-aggregate-frame c = search needs
+
+frame-requires : tie.Need-frame-requires Inv-loop μ-loop
+frame-requires c κs = search needs
+
 add-at : tie.Need-add-at Inv-loop μ-loop
 add-at c =
-    let here = c .before .before .before .before in
+    let here = c .before .before .before .before .before .before .before in
     let loop = here .before .before .before .before .loop in
     let piece : List ℕ = here .before .before .before .before .before .before .args .piece .now in
     let within : here .lend .result .answered .taken ≤ length (take (length piece - loop .at) (drop (loop .at) piece)) = takes-within (here .lend .ensures) in
@@ -57,7 +63,7 @@ loop-less c = search needs
 
 loop-again : tie.Need-loop-again Inv-loop μ-loop
 loop-again c =
-    let here = c .before .before .before .before .before .before .before in
+    let here = c .before .before .before .before .before .before .before .before .before .before in
     let loop = here .before .before .before .before .loop in
     let piece : List ℕ = here .before .before .before .before .before .before .args .piece .now in
     let within : here .lend .result .answered .taken ≤ length (take (length piece - loop .at) (drop (loop .at) piece)) = takes-within (here .lend .ensures) in
@@ -73,11 +79,13 @@ feed-spec =
     Inv-loop
     μ-loop
     loop-holds
-    sub-lend
-    part-lend-start
-    part-lend-end
+    sub-rest
+    part-rest-start
+    part-rest-end
     lend-requires
     kind-of-requires
+    slice-aggregate-frame
+    frame-requires
     add-at
     counted-requires
     is-more-requires

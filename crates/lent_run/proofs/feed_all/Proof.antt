@@ -11,8 +11,11 @@ Inv-loop input size sum₀ at₀ sum at = (at ≤ length input) × (1 ≤ size)
 abbrev μ-loop : tie.MeasureT-loop
 μ-loop input size sum₀ at₀ sum at = length input - at
 
-new-requires : tie.Need-new-requires Inv-loop μ-loop
-new-requires c κs = search needs
+slice-aggregate-restart : tie.Need-slice-aggregate-restart Inv-loop μ-loop
+slice-aggregate-restart c = search needs
+
+restart-requires : tie.Need-restart-requires Inv-loop μ-loop
+restart-requires c κs = search needs
 
 loop-holds : tie.Need-loop-holds Inv-loop μ-loop
 loop-holds c = search needs
@@ -53,7 +56,8 @@ feed-all-spec =
     (tie.spec
     Inv-loop
     μ-loop
-    new-requires
+    slice-aggregate-restart
+    restart-requires
     loop-holds
     sub-least
     least-requires
