@@ -152,16 +152,27 @@ fn lend<T: Copy + Default, const N: usize>(read: impl FnOnce(&mut [T]) -> Answer
     answer
 }
 
+#[cfg(altitudes)]
+fn altitude_rows() {
+    let heights: Vec<i32> = (0..MANY as i32).map(|i| i * 80 - 10_000).collect();
+    row("altitude packed", "value", MANY, || sum(&heights, |d| u64::from(pack_rust(d))), || sum(&heights, |d| u64::from(ours::pack_altitude(d))));
+    let words: Vec<u16> = (0..MANY as u16).map(|i| i.wrapping_mul(17)).collect();
+    row("altitude unpacked", "value", MANY, || sum(&words, |w| unpack_rust(w) as u64), || sum(&words, |w| ours::baro_decimetres(w) as u64));
+}
+
+#[cfg(altitudes)]
 #[inline(never)]
 fn pack_rust(decimetres: i32) -> u16 {
     BaroAltitude::get_altitude_packed(decimetres)
 }
 
+#[cfg(altitudes)]
 #[inline(never)]
 fn unpack_rust(packed: u16) -> i32 {
     BaroAltitude { altitude_packed: packed, vertical_speed_packed: 0 }.get_altitude_dm()
 }
 
+#[cfg(altitudes)]
 fn sum<T: Copy>(inputs: &[T], each: impl Fn(T) -> u64) -> u64 {
     inputs.iter().map(|x| each(black_box(*x))).fold(0, u64::wrapping_add)
 }
@@ -205,9 +216,9 @@ pub fn run(emulated: bool, listing: Option<Listing>) {
         "frame",
         frames.len(),
         || check_bytes(&frames, |b| CHECK.checksum(b)),
-        || check_bytes(&frames, |b| ours::checksum(b).first),
+        || check_bytes(&frames, |b| ours::checksum(b)),
     );
-    row("check byte of a long string", "byte", noise.len(), || u64::from(CHECK.checksum(&noise)), || u64::from(ours::checksum(&noise).first));
+    row("check byte of a long string", "byte", noise.len(), || u64::from(CHECK.checksum(&noise)), || u64::from(ours::checksum(&noise)));
     record_rows!("link statistics", LinkStatistics, &RECORDS[0], records::link_statistics, |p: &[u8]| lend::<i32, 10>(|o| ours::read_link_statistics(p, o)), ours::write_link_statistics);
     record_rows!(
         "channels",
@@ -229,10 +240,8 @@ pub fn run(emulated: bool, listing: Option<Listing>) {
         |p: &[u8]| lend::<i32, 19>(|o| ours::read_rpm(p, o)),
         |b: &mut [u8], dest, r: &Rpm| ours::write_rpm(b, dest, r.rpm_source_id, r.rpm_values())
     );
-    let heights: Vec<i32> = (0..MANY as i32).map(|i| i * 80 - 10_000).collect();
-    row("altitude packed", "value", MANY, || sum(&heights, |d| u64::from(pack_rust(d))), || sum(&heights, |d| u64::from(ours::pack_altitude(d))));
-    let words: Vec<u16> = (0..MANY as u16).map(|i| i.wrapping_mul(17)).collect();
-    row("altitude unpacked", "value", MANY, || sum(&words, |w| unpack_rust(w) as u64), || sum(&words, |w| ours::baro_decimetres(w) as u64));
+    #[cfg(altitudes)]
+    altitude_rows();
     if let Some(listing) = listing {
         listing.row();
     }

@@ -63,9 +63,9 @@ mod entry {
         pub fn crsf_save(state: *const u8, state_len: usize, out: *mut u8, out_len: usize) -> Answer;
         pub fn crsf_restore(state: *mut u8, state_len: usize, form: *const u8, form_len: usize) -> Answer;
         pub fn crsf_held(state: *const u8, state_len: usize) -> Answer;
-        pub fn crsf_is_address(byte: u8) -> Answer;
-        pub fn crsf_header_of(packet_type: u8) -> Answer;
-        pub fn crsf_checksum(bytes: *const u8, len: usize) -> Answer;
+        pub fn crsf_is_address(byte: u8) -> bool;
+        pub fn crsf_header_of(packet_type: u8) -> u8;
+        pub fn crsf_checksum(bytes: *const u8, len: usize) -> u8;
         pub fn crsf_write_link_statistics(
             b: *mut u8, n: usize, dest: u8, rssi_1: u8, rssi_2: u8, quality: u8, snr: i8, antenna: u8, rf_mode: u8, tx_power: u8, down_rssi: u8,
             down_quality: u8, down_snr: i8,
@@ -88,9 +88,13 @@ mod entry {
         pub fn crsf_read_battery(p: *const u8, n: usize, out: *mut i32, out_len: usize) -> Answer;
         pub fn crsf_read_baro_altitude(p: *const u8, n: usize, out: *mut i32, out_len: usize) -> Answer;
         pub fn crsf_read_rpm(p: *const u8, n: usize, out: *mut i32, out_len: usize) -> Answer;
+        #[cfg(altitudes)]
         pub fn crsf_pack_altitude(decimetres: i32) -> u16;
+        #[cfg(altitudes)]
         pub fn crsf_baro_decimetres(packed: u16) -> i32;
+        #[cfg(altitudes)]
         pub fn crsf_gps_metres(raw: u16) -> i32;
+        #[cfg(microseconds)]
         pub fn crsf_channel_microseconds(raw: u16, out: *mut f32, out_len: usize) -> Answer;
     }
 }
@@ -118,16 +122,17 @@ pub fn held(state: &[u8]) -> Answer {
     unsafe { entry::crsf_held(state.as_ptr(), state.len()) }
 }
 
-pub fn is_address(byte: u8) -> Answer {
+pub fn is_address(byte: u8) -> bool {
     unsafe { entry::crsf_is_address(byte) }
 }
 
-pub fn header_of(packet_type: u8) -> Answer {
+/// 0 unlisted, 1 short, 2 extended.
+pub fn header_of(packet_type: u8) -> u8 {
     unsafe { entry::crsf_header_of(packet_type) }
 }
 
 #[inline]
-pub fn checksum(bytes: &[u8]) -> Answer {
+pub fn checksum(bytes: &[u8]) -> u8 {
     unsafe { entry::crsf_checksum(bytes.as_ptr(), bytes.len()) }
 }
 
@@ -213,20 +218,24 @@ pub fn read_rpm(p: &[u8], out: &mut [i32]) -> Answer {
     unsafe { entry::crsf_read_rpm(p.as_ptr(), p.len(), out.as_mut_ptr(), out.len()) }
 }
 
+#[cfg(altitudes)]
 #[inline]
 pub fn pack_altitude(decimetres: i32) -> u16 {
     unsafe { entry::crsf_pack_altitude(decimetres) }
 }
 
+#[cfg(altitudes)]
 #[inline]
 pub fn baro_decimetres(packed: u16) -> i32 {
     unsafe { entry::crsf_baro_decimetres(packed) }
 }
 
+#[cfg(altitudes)]
 pub fn gps_metres(raw: u16) -> i32 {
     unsafe { entry::crsf_gps_metres(raw) }
 }
 
+#[cfg(microseconds)]
 pub fn channel_microseconds(raw: u16, out: &mut [f32]) -> Answer {
     unsafe { entry::crsf_channel_microseconds(raw, out.as_mut_ptr(), out.len()) }
 }

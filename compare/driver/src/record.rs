@@ -1,15 +1,15 @@
 //! Records a sample of the Rust's answers, which crate `replay` compares inside the gate, where there is no Rust. Nothing of the port is asked here.
 //!
 //! The file is made of pages of 4096 bytes; a page is a run of cases and then zeros. A case is its kind, the lengths of its three parts a, b and c,
-//! the eight bytes that the port's entry is to answer (the place of a held frame, which is free, as 0), and the parts:
+//! the eight bytes that the port's entry is to answer (0 where it has none; the place of a held frame, which is free, as 0), and the parts:
 //!
 //! | kind | a | b | c |
 //! |---|---|---|---|
 //! | 1 a reset | | | |
 //! | 2 a call of the stream | the input | | the frame, or what is held afterwards |
-//! | 3 the header of a packet type | the type | | |
-//! | 4 an address | the byte | | |
-//! | 5 a check byte | the bytes | | |
+//! | 3 the header of a packet type | the type | | 0 unlisted, 1 short, 2 extended |
+//! | 4 an address | the byte | | 1 listed, 0 unlisted |
+//! | 5 a check byte | the bytes | | the check byte |
 //! | 10 + r a record read | the payload | | the fields, each 4 bytes, highest first |
 //! | 20 + r a record written | the fields, each 4 bytes, highest first | destination, byte that fills the buffer | the whole buffer afterwards |
 //!
@@ -104,11 +104,10 @@ fn read(pages: &mut Pages, r: usize, record: &Record, payload: &[u8]) {
     let mut a = Answer::default();
     match (record.read_rust)(payload, &mut fields) {
         Err(refusal) => a.number = number_of(refusal),
-        Ok(()) if record.is_rpm() => {
-            a.first = fields.remove(0) as u8;
+        Ok(()) => {
+            a.first = if record.is_rpm() { fields.remove(0) as u8 } else { 0 };
             a.len = fields.len() as u8;
         }
-        Ok(()) => (),
     }
     pages.case(10 + r as u8, payload, &[], a, &wide(&fields));
 }
@@ -130,13 +129,13 @@ pub fn sample(seed: u64) -> (Vec<u8>, usize) {
     let mut r = Rng::new(seed);
     let mut pages = Pages { bytes: vec![], cases: 0 };
     for byte in 0..=255 {
-        pages.case(3, &[byte], &[], Answer { first: queries::header_of(byte), ..Answer::default() }, &[]);
-        pages.case(4, &[byte], &[], Answer { first: u8::from(PacketAddress::try_from(byte).is_ok()), ..Answer::default() }, &[]);
+        pages.case(3, &[byte], &[], Answer::default(), &[queries::header_of(byte)]);
+        pages.case(4, &[byte], &[], Answer::default(), &[u8::from(PacketAddress::try_from(byte).is_ok())]);
     }
     for len in 0..=66 {
         let mut bytes = vec![0; len];
         r.fill(&mut bytes);
-        pages.case(5, &bytes, &[], Answer { first: CHECK.checksum(&bytes), ..Answer::default() }, &[]);
+        pages.case(5, &bytes, &[], Answer::default(), &[CHECK.checksum(&bytes)]);
     }
     for length in [0, 1, 2, 3, 10, 24, 61, 62, 63, 64, 255] {
         for address in [0xC8, 0x00, 0x97, 0x98] {

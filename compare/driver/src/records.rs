@@ -260,11 +260,10 @@ impl Record {
         let got = (self.read_ours)(payload, &mut out);
         let expected = match (self.read_rust)(payload, scratch) {
             Err(refusal) => Answer::refusal(number_of(refusal)),
-            Ok(()) if self.is_rpm() => {
-                let id = scratch.remove(0) as u8;
-                Answer { number: ours::OK, len: scratch.len() as u8, first: id, ..Answer::default() }
+            Ok(()) => {
+                let first = if self.is_rpm() { scratch.remove(0) as u8 } else { 0 };
+                Answer { number: ours::OK, len: scratch.len() as u8, first, ..Answer::default() }
             }
-            Ok(()) => Answer::default(),
         };
         let count = scratch.len();
         if got == expected && out.places[..count] == scratch[..] && out.places[count..].iter().all(|&x| x == UNTOUCHED) {
