@@ -1,13 +1,13 @@
 //! Both sides timed in one run: rounds of each side in turn, the best of each kept, and the ratio of the two.
 use crate::gen::{self, Rng};
-use crate::ours::{self, Answer, State};
+use crate::ours::{self, State};
 use crate::queries::CHECK;
 use crate::records::{self, Record, RECORDS};
 use std::hint::black_box;
 use std::time::Instant;
 use uf_crsf::packets::{write_packet_to_buffer, CrsfPacket};
 use uf_crsf::packets::{BaroAltitude, Battery, Gps, GpsExtended, LinkStatistics, RcChannelsPacked, Rpm};
-use uf_crsf::{CrsfParser, PacketAddress};
+use uf_crsf::{CrsfParser, CrsfParsingError, PacketAddress};
 
 const ROUNDS: usize = 151;
 /// Bytes of a stream: a round is short, so that some rounds of each side are left in peace by whatever else runs.
@@ -97,21 +97,32 @@ fn check_bytes(all: &[&[u8]], check: impl Fn(&[u8]) -> u8) -> u64 {
 /// How many records a round reads or writes.
 const MANY: usize = 4096;
 
-/// A kind of record for timing: the Rust's reading and writing stand behind calls of their own, as the port's do.
+/// A kind of record for timing: the Rust's reading and writing stand behind calls of their own, as the port's do. The Rust reads into its struct,
+/// and once more into lent numbers, which is what the port's entry does.
 macro_rules! record_rows {
-    ($name:expr, $kind:ty, $record:expr, $make:expr, $read_ours:expr, $write_ours:expr) => {{
+    ($name:expr, $kind:ty, $record:expr, $make:expr, $number:ty, $places:expr, $numbers:expr, $read_ours:expr, $write_ours:expr) => {{
         #[inline(never)]
-        fn read(p: &[u8]) -> Result<$kind, uf_crsf::CrsfParsingError> {
+        fn read(p: &[u8]) -> Result<$kind, CrsfParsingError> {
             <$kind>::from_bytes(p)
         }
         #[inline(never)]
-        fn write(b: &mut [u8], r: &$kind) -> Result<usize, uf_crsf::CrsfParsingError> {
+        fn read_numbers(p: &[u8], out: &mut [$number]) -> Result<(), CrsfParsingError> {
+            let r = <$kind>::from_bytes(p)?;
+            let numbers: fn(&$kind, &mut [$number]) = $numbers;
+            if out.len() < $places {
+                return Err(CrsfParsingError::BufferOverflow);
+            }
+            numbers(&r, out);
+            Ok(())
+        }
+        #[inline(never)]
+        fn write(b: &mut [u8], r: &$kind) -> Result<usize, CrsfParsingError> {
             write_packet_to_buffer(b, PacketAddress::FlightController, r)
         }
         let record: &Record = $record;
         let mut r = Rng::new(7);
         let all: Vec<$kind> = (0..64).map(|_| $make(&record.random_fields(&mut r))).collect();
-        let frames: Vec<Vec<u8>> = all
+        let payloads: Vec<Vec<u8>> = all
             .iter()
             .map(|x| {
                 let mut b = [0; 64];
@@ -119,15 +130,22 @@ macro_rules! record_rows {
                 b[3..n - 1].to_vec()
             })
             .collect();
-        row(
-            &format!("{} read", $name),
-            "record",
-            MANY,
-            || {
-                (0..MANY).filter(|i| black_box(read(black_box(&frames[i % 64]))).is_ok()).count() as u64
-            },
-            || (0..MANY).filter(|i| $read_ours(black_box(&frames[i % 64])).number == ours::OK).count() as u64,
-        );
+        let read_ours = |p: &[u8]| {
+            let mut out: [$number; $places] = [0; $places];
+            let answer = $read_ours(p, &mut out);
+            black_box(&out);
+            u64::from(answer.number == ours::OK)
+        };
+        let rust_struct = |p: &[u8]| u64::from(black_box(read(p)).is_ok());
+        let rust_numbers = |p: &[u8]| {
+            let mut out: [$number; $places] = [0; $places];
+            let answer = read_numbers(p, &mut out);
+            black_box(&out);
+            u64::from(answer.is_ok())
+        };
+        let over = |each: &dyn Fn(&[u8]) -> u64| (0..MANY).map(|i| each(black_box(&payloads[i % 64]))).sum::<u64>();
+        row(&format!("{} read, the Rust to its struct", $name), "record", MANY, || over(&rust_struct), || over(&read_ours));
+        row(&format!("{} read, both to numbers", $name), "record", MANY, || over(&rust_numbers), || over(&read_ours));
         row(
             &format!("{} written", $name),
             "frame",
@@ -142,14 +160,6 @@ macro_rules! record_rows {
             },
         );
     }};
-}
-
-/// Lends places for the fields, and keeps the compiler from dropping what is written there.
-fn lend<T: Copy + Default, const N: usize>(read: impl FnOnce(&mut [T]) -> Answer) -> Answer {
-    let mut out = [T::default(); N];
-    let answer = read(&mut out);
-    black_box(&out);
-    answer
 }
 
 #[cfg(altitudes)]
@@ -180,6 +190,57 @@ fn sum<T: Copy>(inputs: &[T], each: impl Fn(T) -> u64) -> u64 {
 fn rpm_of(f: &[i64]) -> Rpm {
     let values: Vec<i32> = (0..4).map(|i| f.get(1 + i).copied().unwrap_or(i as i64) as i32).collect();
     Rpm::new(f[0] as u8, &values).expect("four values are allowed")
+}
+
+fn record_row_of_each_kind() {
+    record_rows!(
+        "link statistics", LinkStatistics, &RECORDS[0], records::link_statistics, i32, 10,
+        |r, o| {
+            o[..3].copy_from_slice(&[r.uplink_rssi_1, r.uplink_rssi_2, r.uplink_link_quality].map(i32::from));
+            o[3] = i32::from(r.uplink_snr);
+            o[4..9].copy_from_slice(&[r.active_antenna, r.rf_mode, r.uplink_tx_power, r.downlink_rssi, r.downlink_link_quality].map(i32::from));
+            o[9] = i32::from(r.downlink_snr);
+        },
+        ours::read_link_statistics, ours::write_link_statistics
+    );
+    record_rows!(
+        "channels", RcChannelsPacked, &RECORDS[1], |f: &[i64]| RcChannelsPacked(std::array::from_fn(|i| f[i] as u16)), u16, 16,
+        |r, o| o[..16].copy_from_slice(&r.0),
+        ours::read_rc_channels_packed, |b: &mut [u8], dest, r: &RcChannelsPacked| ours::write_rc_channels_packed(b, dest, &r.0)
+    );
+    record_rows!(
+        "GPS", Gps, &RECORDS[2], records::gps, i32, 6,
+        |r, o| {
+            o[..2].copy_from_slice(&[r.latitude, r.longitude]);
+            o[2..6].copy_from_slice(&[r.groundspeed, r.heading, r.altitude, u16::from(r.satellites)].map(i32::from));
+        },
+        ours::read_gps, ours::write_gps
+    );
+    record_rows!(
+        "GPS extended", GpsExtended, &RECORDS[3], records::gps_extended, i32, 12,
+        |r, o| {
+            o[0] = i32::from(r.fix_type);
+            let signed = [r.n_speed, r.e_speed, r.v_speed, r.h_speed_acc, r.track_acc, r.alt_ellipsoid, r.h_acc, r.v_acc];
+            o[1..9].copy_from_slice(&signed.map(i32::from));
+            o[9..12].copy_from_slice(&[r.reserved, r.h_dop, r.v_dop].map(i32::from));
+        },
+        ours::read_gps_extended, ours::write_gps_extended
+    );
+    record_rows!(
+        "battery", Battery, &RECORDS[4], records::battery, i32, 5,
+        |r, o| o[..5].copy_from_slice(&[i32::from(r.voltage), i32::from(r.current), r.capacity_used as i32, i32::from(r.remaining), i32::from(r.id)]),
+        ours::read_battery, ours::write_battery
+    );
+    record_rows!(
+        "altitude", BaroAltitude, &RECORDS[5], records::baro_altitude, i32, 2,
+        |r, o| o[..2].copy_from_slice(&[i32::from(r.altitude_packed), i32::from(r.vertical_speed_packed)]),
+        ours::read_baro_altitude, ours::write_baro_altitude
+    );
+    record_rows!(
+        "RPM of 4 values", Rpm, &RECORDS[6], rpm_of, i32, 19,
+        |r, o| o[..r.rpm_values().len()].copy_from_slice(r.rpm_values()),
+        ours::read_rpm, |b: &mut [u8], dest, r: &Rpm| ours::write_rpm(b, dest, r.rpm_source_id, r.rpm_values())
+    );
 }
 
 pub fn run(emulated: bool, listing: Option<Listing>) {
@@ -219,27 +280,7 @@ pub fn run(emulated: bool, listing: Option<Listing>) {
         || check_bytes(&frames, |b| ours::checksum(b)),
     );
     row("check byte of a long string", "byte", noise.len(), || u64::from(CHECK.checksum(&noise)), || u64::from(ours::checksum(&noise)));
-    record_rows!("link statistics", LinkStatistics, &RECORDS[0], records::link_statistics, |p: &[u8]| lend::<i32, 10>(|o| ours::read_link_statistics(p, o)), ours::write_link_statistics);
-    record_rows!(
-        "channels",
-        RcChannelsPacked,
-        &RECORDS[1],
-        |f: &[i64]| RcChannelsPacked(std::array::from_fn(|i| f[i] as u16)),
-        |p: &[u8]| lend::<u16, 16>(|o| ours::read_rc_channels_packed(p, o)),
-        |b: &mut [u8], dest, r: &RcChannelsPacked| ours::write_rc_channels_packed(b, dest, &r.0)
-    );
-    record_rows!("GPS", Gps, &RECORDS[2], records::gps, |p: &[u8]| lend::<i32, 6>(|o| ours::read_gps(p, o)), ours::write_gps);
-    record_rows!("GPS extended", GpsExtended, &RECORDS[3], records::gps_extended, |p: &[u8]| lend::<i32, 12>(|o| ours::read_gps_extended(p, o)), ours::write_gps_extended);
-    record_rows!("battery", Battery, &RECORDS[4], records::battery, |p: &[u8]| lend::<i32, 5>(|o| ours::read_battery(p, o)), ours::write_battery);
-    record_rows!("altitude", BaroAltitude, &RECORDS[5], records::baro_altitude, |p: &[u8]| lend::<i32, 2>(|o| ours::read_baro_altitude(p, o)), ours::write_baro_altitude);
-    record_rows!(
-        "RPM of 4 values",
-        Rpm,
-        &RECORDS[6],
-        rpm_of,
-        |p: &[u8]| lend::<i32, 19>(|o| ours::read_rpm(p, o)),
-        |b: &mut [u8], dest, r: &Rpm| ours::write_rpm(b, dest, r.rpm_source_id, r.rpm_values())
-    );
+    record_row_of_each_kind();
     #[cfg(altitudes)]
     altitude_rows();
     if let Some(listing) = listing {
