@@ -1,5 +1,6 @@
 //! Both sides timed in one run: rounds of each side in turn, the best of each kept, and the ratio of the two.
 use crate::gen::{self, Rng};
+use crate::listing::Listing;
 use crate::ours::{self, State};
 use crate::queries::CHECK;
 use crate::records::{self, Record, RECORDS};
@@ -284,7 +285,7 @@ pub fn run(emulated: bool, listing: Option<Listing>) {
     #[cfg(altitudes)]
     altitude_rows();
     if let Some(listing) = listing {
-        listing.row();
+        listing_row(&listing);
     }
     println!(
         "\nThe contiguous row against the check byte alone over the same frames: ours {:.2} times ours, {:.2} times the faster of the two; the Rust {:.2} times its own.",
@@ -294,47 +295,24 @@ pub fn run(emulated: bool, listing: Option<Listing>) {
     );
 }
 
-/// The listing programs, each a command with its words, and the file that they read.
-pub struct Listing {
-    pub rust: Vec<String>,
-    pub ours: Vec<String>,
-    pub file: std::path::PathBuf,
-}
-
-impl Listing {
-    fn time(&self, command: &[String], output: &std::path::Path) -> f64 {
-        let input = std::fs::File::open(&self.file).expect("the stream was written");
-        let output = std::fs::File::create(output).expect("the listing can be written");
-        let t = Instant::now();
-        let status = std::process::Command::new(&command[0]).args(&command[1..]).stdin(input).stdout(output).status();
-        assert!(status.expect("the listing program starts").success(), "{command:?} failed");
-        t.elapsed().as_secs_f64()
+/// Whole programs over a file: typical frames, and some that are damaged and some noise between.
+fn listing_row(listing: &Listing) {
+    const BYTES: usize = 50_000_000;
+    let mut r = Rng::new(9);
+    let mut stream = vec![];
+    while stream.len() < BYTES {
+        stream.extend(gen::typical(&mut r, 20_000));
+        stream.extend(gen::stream(&mut r, 200));
     }
-
-    /// Whole programs over a file: typical frames, some damaged, some noise.
-    fn row(&self) {
-        const BYTES: usize = 50_000_000;
-        let mut r = Rng::new(9);
-        let mut stream = vec![];
-        while stream.len() < BYTES {
-            stream.extend(gen::typical(&mut r, 20_000));
-            stream.extend(gen::stream(&mut r, 200));
-        }
-        std::fs::write(&self.file, &stream).expect("the stream can be written");
-        let (one, two) = (self.file.with_extension("rust"), self.file.with_extension("ours"));
-        let (mut rust, mut ours) = (f64::MAX, f64::MAX);
-        for _ in 0..7 {
-            rust = rust.min(self.time(&self.rust, &one));
-            ours = ours.min(self.time(&self.ours, &two));
-        }
-        let same = std::fs::read(&one).expect("a listing") == std::fs::read(&two).expect("a listing");
-        assert!(same, "the two listings differ: {} and {}", one.display(), two.display());
-        let ns = |seconds: f64| seconds * 1e9 / stream.len() as f64;
-        println!("| listing, whole program, {} MB | {:.2} | {:.2} | byte | {:.2} |", stream.len() / 1_000_000, ns(rust), ns(ours), ours / rust);
-        for file in [&self.file, &one, &two] {
-            let _ = std::fs::remove_file(file);
-        }
+    let (mut rust, mut ours) = (f64::MAX, f64::MAX);
+    for _ in 0..7 {
+        let run = listing.run(&stream);
+        assert!(run.rust.1 == run.ours.1, "the two listings differ");
+        rust = rust.min(run.rust.0);
+        ours = ours.min(run.ours.0);
     }
+    let ns = |seconds: f64| seconds * 1e9 / stream.len() as f64;
+    println!("| listing, whole program, {} MB | {:.2} | {:.2} | byte | {:.2} |", stream.len() / 1_000_000, ns(rust), ns(ours), ours / rust);
 }
 
 fn machine() -> String {

@@ -2,12 +2,14 @@
 mod bench;
 mod framing;
 mod gen;
+mod listing;
 mod ours;
 mod queries;
 mod record;
 mod records;
 mod report;
 
+use listing::Listing;
 use report::Report;
 
 struct Options {
@@ -54,10 +56,10 @@ fn options() -> Options {
 }
 
 /// Both listing programs, where the port's is at hand.
-fn listing(o: &Options) -> Option<bench::Listing> {
+fn listing(o: &Options) -> Option<Listing> {
     let command = |program: String| [o.emulator.clone(), vec![program]].concat();
     let beside = std::env::current_exe().ok()?.with_file_name("rust_list");
-    Some(bench::Listing {
+    Some(Listing {
         rust: command(beside.to_str()?.to_string()),
         ours: command(o.list.clone()?),
         file: o.root.join("target/compare/stream"),
@@ -81,6 +83,10 @@ fn main() {
     framing::compare(&mut report, o.seed, o.bytes);
     records::compare(&mut report, o.seed, 20_000.max(o.bytes / 100));
     queries::compare(&mut report, o.seed);
+    match listing(&o) {
+        Some(listing) => listing.compare(&mut report, o.seed),
+        None => report.left_out("listing: whole programs, every line", "there is no program `list` (rt check list)"),
+    }
     if !report.finish() {
         std::process::exit(1);
     }

@@ -50,11 +50,11 @@ pub fn compare(report: &mut Report, seed: u64) {
     #[cfg(altitudes)]
     altitudes(report, &mut r);
     #[cfg(not(altitudes))]
-    report.left_out("altitudes: every d from -10100 to 328000, every packed word");
+    report.left_out("altitudes: every d from -10100 to 328000, every packed word", "libhost.a has no entry for it");
     #[cfg(microseconds)]
     microseconds(report);
     #[cfg(not(microseconds))]
-    report.left_out("channel microseconds: every word");
+    report.left_out("channel microseconds: every word", "libhost.a has no entry for it");
     bad_states(report, &mut r);
 }
 

@@ -10,6 +10,8 @@
 //! | 3 the header of a packet type | the type | | 0 unlisted, 1 short, 2 extended |
 //! | 4 an address | the byte | | 1 listed, 0 unlisted |
 //! | 5 a check byte | the bytes | | the check byte |
+//! | 6 an altitude packed | decimetres, 4 bytes, highest first | | the packed word, highest first |
+//! | 7 an altitude unpacked | the packed word, highest first | | decimetres, 4 bytes, highest first |
 //! | 10 + r a record read | the payload | | the fields, each 4 bytes, highest first |
 //! | 20 + r a record written | the fields, each 4 bytes, highest first | destination, byte that fills the buffer | the whole buffer afterwards |
 //!
@@ -19,6 +21,7 @@ use crate::gen::{self, Rng, ADDRESSES, EDGES};
 use crate::ours::{self, Answer};
 use crate::queries::{self, CHECK};
 use crate::records::{number_of, Record, RECORDS};
+use uf_crsf::packets::BaroAltitude;
 use uf_crsf::{CrsfParser, CrsfStreamError, PacketAddress};
 
 const PAGE: usize = 4096;
@@ -136,6 +139,15 @@ pub fn sample(seed: u64) -> (Vec<u8>, usize) {
         let mut bytes = vec![0; len];
         r.fill(&mut bytes);
         pages.case(5, &bytes, &[], Answer::default(), &[CHECK.checksum(&bytes)]);
+    }
+    let near = |d: i32| d - 2..=d + 2;
+    let random: Vec<i32> = (0..100).map(|_| r.within(-12_000, 330_000) as i32).collect();
+    for d in near(-10_000).chain(near(0)).chain(near(22_768)).chain(near(327_655)).chain([i32::MIN, i32::MAX]).chain(random) {
+        pages.case(6, &d.to_be_bytes(), &[], Answer::default(), &BaroAltitude::get_altitude_packed(d).to_be_bytes());
+    }
+    for packed in (0..=u16::MAX).step_by(499).chain([0x7FFE, 0x7FFF, 0x8000, 0x8001, 0xFFFE, 0xFFFF]) {
+        let rust = BaroAltitude { altitude_packed: packed, vertical_speed_packed: 0 }.get_altitude_dm();
+        pages.case(7, &packed.to_be_bytes(), &[], Answer::default(), &rust.to_be_bytes());
     }
     for length in [0, 1, 2, 3, 10, 24, 61, 62, 63, 64, 255] {
         for address in [0xC8, 0x00, 0x97, 0x98] {

@@ -52,10 +52,9 @@ impl Report {
     pub fn lists(&self, input: &str) -> bool {
         self.differences.lines().any(|line| line.starts_with(&format!("| {input} |")))
     }
-    /// Says that a family was left out, since the archive has no entry for it.
-    #[allow(dead_code)]
-    pub fn left_out(&self, name: &str) {
-        println!("{name:<58} NOT COMPARED: libhost.a has no entry for it");
+    /// Says that a family was left out, and why.
+    pub fn left_out(&self, name: &str, why: &str) {
+        println!("{name:<58} NOT COMPARED: {why}");
     }
     /// Runs one family and prints its line.
     pub fn family(&mut self, name: &'static str, run: impl FnOnce(&mut Family)) {

@@ -1,10 +1,10 @@
 // The stream call over the 66 bytes of a host: what it answers, how much it takes, and the frame's bytes or what is held afterwards.
-use base::byte_at;
-use base::wide;
 use crate::case::Case;
 use crate::case::Expected;
 use crate::case::bytes_from;
 use crate::case::bytes_of;
+use base::byte_at;
+use base::wide;
 use stream::lent::step_lent;
 use stream::step::Answer;
 

@@ -22,7 +22,7 @@ fn agrees(page: &[u8], at: usize, state: &mut [u8]) -> bool
     match kind {
         1 => framing::resets(state),
         2 => framing::calls(state, page, c),
-        3..=5 => queries::answers(page, c),
+        3..=7 => queries::answers(page, c),
         10..=16 => read::reads(page, c),
         20..=26 => written::writes(page, c),
         _ => false,
@@ -104,7 +104,11 @@ fn main() {
     let mut counts = [0u64; 8];
     replay_all(&mut state, &mut counts);
     line(b"framing ", counts[0], counts[1]);
-    line(b"types, addresses, check bytes ", counts[2], counts[3]);
+    line(
+        b"types, addresses, check bytes, altitudes ",
+        counts[2],
+        counts[3],
+    );
     line(b"records read ", counts[4], counts[5]);
     line(b"records written ", counts[6], counts[7]);
 }

@@ -1,6 +1,9 @@
-// Addresses, headers of packet types, check bytes.
+// Addresses, headers of packet types, check bytes, altitudes.
 use crate::case::Case;
 use crate::case::bytes_of;
+use crate::fields::i32_at;
+use crate::fields::u16_at;
+use altitude::Decimetres;
 use base::byte_at;
 use packets::Header;
 
@@ -27,8 +30,26 @@ fn answer(kind: u8, bytes: &[u8]) -> u8 {
     }
 }
 
+fn packs(d: i32, expected: &[u8]) -> bool {
+    altitude::pack_altitude(Decimetres(d)) == u16_at(expected, 0)
+}
+
+fn unpacks(packed: u16, expected: &[u8]) -> bool {
+    let d = altitude::baro_altitude(packed);
+    d.0 == i32_at(expected, 0)
+}
+
 pub fn answers(page: &[u8], c: Case) -> bool {
     let a = c.a;
-    let expected = c.c;
-    answer(c.kind, bytes_of(page, a)) == byte_at(bytes_of(page, expected), 0)
+    let part = c.c;
+    let bytes = bytes_of(page, a);
+    let expected = bytes_of(page, part);
+    let kind = c.kind;
+    if kind == 6 {
+        return packs(i32_at(bytes, 0), expected);
+    }
+    if kind == 7 {
+        return unpacks(u16_at(bytes, 0), expected);
+    }
+    answer(kind, bytes) == byte_at(expected, 0)
 }

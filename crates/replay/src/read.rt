@@ -1,13 +1,13 @@
 // Records read from payloads: the refusal, or every field.
-use base::byte_at;
-use channels::RcChannelsPacked;
 use crate::case::Case;
 use crate::case::bytes_of;
+use crate::fields::i8_at;
 use crate::fields::i16_at;
 use crate::fields::i32_at;
-use crate::fields::i8_at;
 use crate::fields::u16_at;
 use crate::fields::u32_at;
+use base::byte_at;
+use channels::RcChannelsPacked;
 use layout::ReadAnswer;
 use positions::gps::Gps;
 use positions::gps::GpsRead;

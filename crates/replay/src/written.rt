@@ -1,15 +1,15 @@
 // Records written as frames: the refusal or the count, and the whole buffer afterwards.
-use base::byte_at;
-use base::wide;
-use channels::RcChannelsPacked;
 use crate::case::Case;
 use crate::case::Expected;
 use crate::case::bytes_of;
+use crate::fields::i8_at;
 use crate::fields::i16_at;
 use crate::fields::i32_at;
-use crate::fields::i8_at;
 use crate::fields::u16_at;
 use crate::fields::u32_at;
+use base::byte_at;
+use base::wide;
+use channels::RcChannelsPacked;
 use layout::ReadAnswer;
 use layout::Written;
 use positions::gps::Gps;
