@@ -9,7 +9,7 @@ use native.Mathlib.Numerals.{add-one}
 use native.Mathlib.Omega.{arith}
 use lib.Dec.{lit<}
 use lib.ListN.{length, getD, take, drop, set, length-append, length-take, length-drop, take-append-drop, List·getD-eq-default}
-use lib.Seq.{length-take-le, take-suc, getD-drop, getD-take, set-at, append-snoc, take-at, drop-at, drop-drop, take-nil, paste, paste-suc}
+use lib.Seq.{length-take-le, take-suc, getD-drop, getD-take, set-at, append-snoc, take-at, drop-at, drop-drop, take-nil, take-length, paste, paste-suc}
 use Rattle.base.specs.Bytes.{Bytes}
 use Rattle.base.specs.Parts.{part, pasted}
 use Rattle.base.proofs.Tests.{below}
@@ -85,6 +85,15 @@ paste-more d at s i hd hs = rw add-one (paste-suc d at s i 0 hd hs)
 pub paste-pasted : (d s : List ℕ) (at n : ℕ) → n ≤ length s → paste d at s n ≡ pasted d at (take n s)
 unfolding pasted
 paste-pasted d s at n h = ap (λ (k : ℕ). take at d ++ take n s ++ drop (at + k) d) (sym (length-take-le n s h))
+
+-- a copy of a whole list
+pub paste-all : (d : List ℕ) (at : ℕ) (s : List ℕ) (n : ℕ) → n ≡ length s → paste d at s n ≡ pasted d at s
+unfolding pasted
+paste-all d at s n e = rw (e, take-length)
+
+-- one byte stored
+pub set-pasted : (d : List ℕ) (k b : ℕ) → k < length d → set d k b ≡ pasted d k (b ∷ [])
+set-pasted d k b h = ap (λ (l : List ℕ). set l k b) (sym (pasted-nil d (suc k))) ∙ pasted-cons d k b [] h
 
 -- what is left of a front part, as a part
 pub drop-take : (a t : ℕ) (l : List ℕ) → drop a (take t l) ≡ take (t - a) (drop a l)

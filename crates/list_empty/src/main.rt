@@ -1,0 +1,3 @@
+fn main() {
+    listing_io::list_input();
+}

@@ -1,0 +1,59 @@
+-- Each public function's promise leaves one answer: what two results that keep it show is the same. Free is only where the held bytes stand.
+-- Assumes nothing.
+use mathlib.Core.Path.{_≡_, refl, sym, ap, ap₂, _∙_}
+use mathlib.Core.List.{List}
+use Prim.Native.Nat.{ℕ}
+use denote.Ref.{now}
+use lib.ListN.{length}
+use Rattle.base.specs.Parts.{pasted}
+use Rattle.base.proofs.Tests.{by-test}
+use Rattle.base.proofs.Unique.{OneAnswer}
+use Rattle.stream.specs.Places.{heldIn}
+use Rattle.stream.specs.Step.{isSpan}
+use Rattle.listing.specs.Listing.{Listing}
+use Rattle.listing.specs.Drain.{statusOf, Drains, Lists}
+use Rattle.listing.specs.declared.drain.Listed.{Listed}
+use Rattle.listing.specs.declared.drain.Status.{Status}
+use Rattle.listing.proofs.drain.list_in.Reads as list-in
+
+-- what a listing shows
+pub record Shows : Type 0 where
+  pub held : List ℕ
+  pub taken : ℕ
+  pub written : ℕ
+  pub status : Status
+  pub buffer : List ℕ
+
+abbrev pub shows : Listed → List ℕ → List ℕ → Shows
+shows r places out = record { held = heldIn places (r .start) (r .end); taken = r .taken; written = r .written; status = r .status; buffer = out }
+
+by-promise : {m : ℕ} {l : Listing} {input out places outAfter : List ℕ} {r : Listed} → Drains m l input out places outAfter r
+    → shows r places outAfter
+    ≡ record { held = l .held; taken = l .taken; written = length (l .lines); status = statusOf (l .asks); buffer = pasted out 0 (l .lines) }
+by-promise d =
+    let p = d .held-is in
+    let q = d .taken-is in
+    let u = d .written-is in
+    let v = d .status-is in
+    let w = d .buffer in
+    cc
+
+one-listing : (m : ℕ) (before : List ℕ) (start end : ℕ) (input out : List ℕ) {places places′ outAfter outAfter′ : List ℕ} {r r′ : Listed}
+    → Lists m before start end input out places outAfter r → Lists m before start end input out places′ outAfter′ r′
+    → shows r places outAfter ≡ shows r′ places′ outAfter′
+one-listing m before start end input out a b =
+    by-test (isSpan m start end)
+    (λ good. by-promise (a .drains good) ∙ sym (by-promise (b .drains good)))
+    (λ bad.
+    let p = a .refuses bad in
+    let q = b .refuses bad in
+    let r = p .0 in
+    let r′ = q .0 in
+    let s = p .1 .0 in
+    let s′ = q .1 .0 in
+    let t = p .1 .1 in
+    let t′ = q .1 .1 in
+    cc)
+
+pub list-in-one : OneAnswer {Seen = Shows} list-in.Post (λ κs r s. shows r (now (s .0)) (now (s .1 .1 .1 .1 .0)))
+list-in-one κs a r r′ s s′ = one-listing _ _ _ _ _ _

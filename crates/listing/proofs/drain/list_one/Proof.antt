@@ -1,0 +1,35 @@
+-- `listing::drain::list_one` meets its contract. Assumes nothing.
+use Rattle.listing.proofs.Said.{turned}
+use borrow.Author.Needs.{needs}
+use Rattle.listing.proofs.drain.list_one.Statement.{statement}
+use Rattle.listing.proofs.drain.list_one.Tie as tie
+
+step-in-requires : tie.Need-step-in-requires
+step-in-requires c κs = search needs
+
+put-line-requires : tie.Need-put-line-requires
+put-line-requires c κs = search needs
+
+is-stop-requires : tie.Need-is-stop-requires
+is-stop-requires c κs = search needs
+
+same-length : tie.Need-same-length
+same-length c = search needs
+
+same-length-2 : tie.Need-same-length-2
+same-length-2 c = search needs
+
+returns : tie.Need-returns
+returns c =
+    turned (c .before .before .before .before .before .before .before .before .step-in .ensures .moves (c .before .before .before .before .before .before .before .before .before .before .before .before .before .pre .0)) (c .before .before .before .put-line .ensures .0) (c .before .before .before .put-line .ensures .1) (c .is-stop .ensures)
+
+pub list-one-spec : {M : Type 1} → statement M
+list-one-spec =
+    tie.close
+    (tie.spec
+    step-in-requires
+    put-line-requires
+    is-stop-requires
+    same-length
+    same-length-2
+    returns)

@@ -1,0 +1,4 @@
+pub mod Listing
+pub mod Drain
+pub mod Shown
+pub mod Examples

@@ -1,0 +1,42 @@
+-- The lines of the answers to the held bytes and then an input, as many as there is room for: the promise of the listing.
+-- Assumes nothing.
+use Prim.Native.Nat.{ℕ, _+_, _-_}
+use mathlib.Core.Bool.{Bool, true, false}
+use mathlib.Core.List.{List, [], _∷_, _++_}
+use lib.Dec.{ltb}
+use lib.ListN.{length, drop}
+use Rattle.base.specs.Choice.{if_then_else_}
+use Rattle.reading.specs.Answer.{Answer}
+use Rattle.reading.specs.Reading.{reading}
+use Rattle.reading.specs.Call.{call}
+use Rattle.lines.specs.Lines.{longest, line}
+
+pub record Listing : Type 0 where
+  -- the bytes written
+  pub lines : List ℕ
+  -- how many bytes of the input were taken
+  pub taken : ℕ
+  -- the bytes held afterwards
+  pub held : List ℕ
+  -- all answers are given, and more input is asked for; else room for more lines is
+  pub asks : Bool
+
+-- some lines and taken bytes, and then a listing
+abbrev pub after : List ℕ → ℕ → Listing → Listing
+after lines taken more = record { lines = lines ++ more .lines; taken = taken + more .taken; held = more .held; asks = more .asks }
+
+abbrev pub full : List ℕ → Listing
+full held = record { lines = []; taken = 0; held = held; asks = false }
+
+abbrev pub asking : List ℕ → List ℕ → Listing
+asking held input = record { lines = []; taken = length input; held = held ++ input; asks = true }
+
+-- the answers that are to come are given one by one, each by a call, while there is room for the longest line
+unfoldable pub listFrom : ℕ → List Answer → List ℕ → List ℕ → ℕ → Listing
+listFrom m [] held input room = if ltb room longest then full held else asking held input
+listFrom m (a ∷ more) held input room =
+    if ltb room longest then full held else
+    (let c = call m held input in after (line a) (c .taken) (listFrom m more (c .held) (drop (c .taken) input) (room - length (line a))))
+
+unfoldable pub listOf : ℕ → List ℕ → List ℕ → ℕ → Listing
+listOf m held input room = listFrom m (reading m (held ++ input) .answers) held input room

@@ -1,0 +1,26 @@
+-- `saved::form::is_savable` meets its contract. Assumes nothing.
+use mathlib.Core.Bool.{and-false}
+use borrow.Author.Tests.{le-leb, lt-leb}
+use Rattle.saved.specs.Form.{isSavable}
+use borrow.Author.Needs.{needs}
+use Rattle.saved.proofs.form.is_savable.Statement.{statement}
+use Rattle.saved.proofs.form.is_savable.Tie as tie
+
+returns : tie.Need-returns
+unfolding isSavable
+returns c = simp (lt-leb _ _ (c .if1 .taken))
+
+returns-2 : tie.Need-returns-2
+unfolding isSavable
+returns-2 c = simp (le-leb _ _ (c .before .if1 .left), lt-leb _ _ (c .if2 .taken))
+
+is-count-requires : tie.Need-is-count-requires
+is-count-requires c κs = search needs
+
+returns-3 : tie.Need-returns-3
+unfolding isSavable
+returns-3 c =
+    simp (le-leb _ _ (c .before .before .if1 .left), le-leb _ _ (c .before .if2 .left), c .is-count .ensures)
+
+pub is-savable-spec : {M : Type 1} → statement M
+is-savable-spec = tie.close (tie.spec returns returns-2 is-count-requires returns-3)

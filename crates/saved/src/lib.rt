@@ -1,0 +1,46 @@
+// The saved form of a parser: what it holds, written so that a later run goes on where this one was.
+pub mod form;
+pub mod lent;
+
+use form::Restored;
+use form::Saved;
+use form::restore_in;
+use form::save_in;
+use parser::CrsfParser;
+ghost use mathlib.Core.Path.{_≡_};
+ghost use Rattle.saved.specs.Save.{toldBySave, toldByRestore, saveOf};
+ghost use Rattle.saved.specs.Parser.{resumeOf};
+
+// The parser after a restore, and what the restore says.
+pub struct Resumed {
+    pub parser: CrsfParser,
+    pub restored: Restored,
+}
+
+pub fn save(p: CrsfParser, out: &mut [u8]) -> Saved
+    ensures { λ r. ⌜ (toldBySave r, now (out .exit)) ≡ saveOf (p .buffer) (p .start) (p .end) (now (out .entry)) ⌝ }
+{
+    let buffer = p.buffer;
+    save_in(&buffer, p.start, p.end, out)
+}
+
+pub fn restore(p: CrsfParser, form: &[u8]) -> Resumed
+    ensures { λ r. ⌜ (toldByRestore (r .restored), r .parser) ≡ resumeOf p (now (form .entry)) ⌝ }
+{
+    let mut buffer = p.buffer;
+    let restored = restore_in(&mut buffer, form);
+    match restored {
+        Restored::Held(count) => Resumed {
+            parser: CrsfParser {
+                buffer,
+                start: 0,
+                end: count,
+            },
+            restored,
+        },
+        Restored::BadState => Resumed {
+            parser: p,
+            restored,
+        },
+    }
+}
