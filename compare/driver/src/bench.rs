@@ -109,11 +109,12 @@ macro_rules! record_rows {
         #[inline(never)]
         fn read_numbers(p: &[u8], out: &mut [$number]) -> Result<(), CrsfParsingError> {
             let r = <$kind>::from_bytes(p)?;
-            let numbers: fn(&$kind, &mut [$number]) = $numbers;
-            if out.len() < $places {
-                return Err(CrsfParsingError::BufferOverflow);
+            let Some(out) = out.first_chunk_mut::<$places>() else { return Err(CrsfParsingError::BufferOverflow) };
+            #[inline(always)]
+            fn numbers(r: &$kind, f: impl FnOnce(&$kind, &mut [$number; $places]), out: &mut [$number; $places]) {
+                f(r, out)
             }
-            numbers(&r, out);
+            numbers(&r, $numbers, out);
             Ok(())
         }
         #[inline(never)]
@@ -197,23 +198,33 @@ fn record_row_of_each_kind() {
     record_rows!(
         "link statistics", LinkStatistics, &RECORDS[0], records::link_statistics, i32, 10,
         |r, o| {
-            o[..3].copy_from_slice(&[r.uplink_rssi_1, r.uplink_rssi_2, r.uplink_link_quality].map(i32::from));
+            o[0] = i32::from(r.uplink_rssi_1);
+            o[1] = i32::from(r.uplink_rssi_2);
+            o[2] = i32::from(r.uplink_link_quality);
             o[3] = i32::from(r.uplink_snr);
-            o[4..9].copy_from_slice(&[r.active_antenna, r.rf_mode, r.uplink_tx_power, r.downlink_rssi, r.downlink_link_quality].map(i32::from));
+            o[4] = i32::from(r.active_antenna);
+            o[5] = i32::from(r.rf_mode);
+            o[6] = i32::from(r.uplink_tx_power);
+            o[7] = i32::from(r.downlink_rssi);
+            o[8] = i32::from(r.downlink_link_quality);
             o[9] = i32::from(r.downlink_snr);
         },
         ours::read_link_statistics, ours::write_link_statistics
     );
     record_rows!(
         "channels", RcChannelsPacked, &RECORDS[1], |f: &[i64]| RcChannelsPacked(std::array::from_fn(|i| f[i] as u16)), u16, 16,
-        |r, o| o[..16].copy_from_slice(&r.0),
+        |r, o| *o = r.0,
         ours::read_rc_channels_packed, |b: &mut [u8], dest, r: &RcChannelsPacked| ours::write_rc_channels_packed(b, dest, &r.0)
     );
     record_rows!(
         "GPS", Gps, &RECORDS[2], records::gps, i32, 6,
         |r, o| {
-            o[..2].copy_from_slice(&[r.latitude, r.longitude]);
-            o[2..6].copy_from_slice(&[r.groundspeed, r.heading, r.altitude, u16::from(r.satellites)].map(i32::from));
+            o[0] = r.latitude;
+            o[1] = r.longitude;
+            o[2] = i32::from(r.groundspeed);
+            o[3] = i32::from(r.heading);
+            o[4] = i32::from(r.altitude);
+            o[5] = i32::from(r.satellites);
         },
         ours::read_gps, ours::write_gps
     );
@@ -221,20 +232,37 @@ fn record_row_of_each_kind() {
         "GPS extended", GpsExtended, &RECORDS[3], records::gps_extended, i32, 12,
         |r, o| {
             o[0] = i32::from(r.fix_type);
-            let signed = [r.n_speed, r.e_speed, r.v_speed, r.h_speed_acc, r.track_acc, r.alt_ellipsoid, r.h_acc, r.v_acc];
-            o[1..9].copy_from_slice(&signed.map(i32::from));
-            o[9..12].copy_from_slice(&[r.reserved, r.h_dop, r.v_dop].map(i32::from));
+            o[1] = i32::from(r.n_speed);
+            o[2] = i32::from(r.e_speed);
+            o[3] = i32::from(r.v_speed);
+            o[4] = i32::from(r.h_speed_acc);
+            o[5] = i32::from(r.track_acc);
+            o[6] = i32::from(r.alt_ellipsoid);
+            o[7] = i32::from(r.h_acc);
+            o[8] = i32::from(r.v_acc);
+            o[9] = i32::from(r.reserved);
+            o[10] = i32::from(r.h_dop);
+            o[11] = i32::from(r.v_dop);
         },
         ours::read_gps_extended, ours::write_gps_extended
     );
     record_rows!(
         "battery", Battery, &RECORDS[4], records::battery, i32, 5,
-        |r, o| o[..5].copy_from_slice(&[i32::from(r.voltage), i32::from(r.current), r.capacity_used as i32, i32::from(r.remaining), i32::from(r.id)]),
+        |r, o| {
+            o[0] = i32::from(r.voltage);
+            o[1] = i32::from(r.current);
+            o[2] = r.capacity_used as i32;
+            o[3] = i32::from(r.remaining);
+            o[4] = i32::from(r.id);
+        },
         ours::read_battery, ours::write_battery
     );
     record_rows!(
         "altitude", BaroAltitude, &RECORDS[5], records::baro_altitude, i32, 2,
-        |r, o| o[..2].copy_from_slice(&[i32::from(r.altitude_packed), i32::from(r.vertical_speed_packed)]),
+        |r, o| {
+            o[0] = i32::from(r.altitude_packed);
+            o[1] = i32::from(r.vertical_speed_packed);
+        },
         ours::read_baro_altitude, ours::write_baro_altitude
     );
     record_rows!(
