@@ -1,0 +1,73 @@
+//! The two listing programs, the Rust's (rust_list.rs) and the port's, run on the same bytes.
+use crate::gen::{self, Rng};
+use crate::report::Report;
+use std::fs::{self, File};
+use std::path::{Path, PathBuf};
+use std::process::Command;
+use std::time::Instant;
+
+/// Each program is a command with its words; beside `file` stand what they read and what they write.
+pub struct Listing {
+    pub rust: Vec<String>,
+    pub ours: Vec<String>,
+    pub file: PathBuf,
+}
+
+/// Seconds and lines of each program.
+pub struct Run {
+    pub rust: (f64, Vec<u8>),
+    pub ours: (f64, Vec<u8>),
+}
+
+impl Listing {
+    fn list(&self, command: &[String], output: &Path) -> (f64, Vec<u8>) {
+        let input = File::open(&self.file).expect("the stream was written");
+        let file = File::create(output).expect("the listing can be written");
+        let t = Instant::now();
+        let status = Command::new(&command[0]).args(&command[1..]).stdin(input).stdout(file).status();
+        let seconds = t.elapsed().as_secs_f64();
+        assert!(status.expect("the listing program starts").success(), "{command:?} failed");
+        let lines = fs::read(output).expect("the listing was written");
+        let _ = fs::remove_file(output);
+        (seconds, lines)
+    }
+
+    pub fn run(&self, stream: &[u8]) -> Run {
+        fs::write(&self.file, stream).expect("the stream can be written");
+        let run = Run { rust: self.list(&self.rust, &self.file.with_extension("rust")), ours: self.list(&self.ours, &self.file.with_extension("ours")) };
+        let _ = fs::remove_file(&self.file);
+        run
+    }
+
+    /// Compares the lines.
+    pub fn compare(&self, report: &mut Report, seed: u64) {
+        report.family("listing: whole programs, every line", |family| {
+            let mut r = Rng::new(seed ^ 0x1157);
+            let mut noise = vec![0; 300_000];
+            r.fill(&mut noise);
+            let streams = [
+                vec![],
+                vec![0xC8, 2, 0, 0, 0x55, 0xC8, 2, 0],
+                noise,
+                vec![0xC8; 100_000],
+                gen::stream(&mut r, 1_000_000),
+                gen::typical(&mut r, 1_000_000),
+            ];
+            for stream in streams {
+                let run = self.run(&stream);
+                let (rust, ours) = (String::from_utf8_lossy(&run.rust.1), String::from_utf8_lossy(&run.ours.1));
+                let mut lines = (rust.split('\n'), ours.split('\n'));
+                let mut n = 0;
+                loop {
+                    match (lines.0.next(), lines.1.next()) {
+                        (None, None) => break,
+                        (one, two) => {
+                            n += 1;
+                            family.same(one, two, || format!("line {n} of a stream of {} bytes", stream.len()));
+                        }
+                    }
+                }
+            }
+        });
+    }
+}

@@ -1,0 +1,93 @@
+//! Runs the Rust original and the port on the same inputs and compares every answer; or times both. compare/run starts it.
+mod bench;
+mod framing;
+mod gen;
+mod listing;
+mod ours;
+mod queries;
+mod record;
+mod records;
+mod report;
+
+use listing::Listing;
+use report::Report;
+
+struct Options {
+    seed: u64,
+    bytes: u64,
+    /// The repository's root.
+    root: std::path::PathBuf,
+    /// Whether both sides are timed, and not compared.
+    bench: bool,
+    /// Where the sample of the Rust's answers is written, and nothing is compared.
+    record: Option<String>,
+    /// The emulator's command, where one runs this.
+    emulator: Vec<String>,
+    /// The port's listing program.
+    list: Option<String>,
+}
+
+const USAGE: &str = "compare/run [--seed N] [--bytes N] [--bench] [--record FILE] [--rust DIR] [--archive DIR]";
+
+fn number(text: &str) -> u64 {
+    text.parse::<f64>().ok().filter(|n| *n >= 0.0).unwrap_or_else(|| panic!("{text} is no number; usage: {USAGE}")) as u64
+}
+
+fn options() -> Options {
+    let mut o = Options { seed: 1, bytes: 20_000_000, root: ".".into(), bench: false, record: None, emulator: vec![], list: None };
+    let mut words = std::env::args().skip(1);
+    while let Some(word) = words.next() {
+        let mut next = || words.next().unwrap_or_else(|| panic!("{word} wants a value; usage: {USAGE}"));
+        match word.as_str() {
+            "--seed" => {
+                let text = next();
+                o.seed = text.parse().unwrap_or_else(|_| panic!("{text} is no seed; usage: {USAGE}"));
+            }
+            "--bytes" => o.bytes = number(&next()),
+            "--root" => o.root = next().into(),
+            "--bench" => o.bench = true,
+            "--record" => o.record = Some(next()),
+            "--emulator" => o.emulator = next().split(' ').map(String::from).collect(),
+            "--list" => o.list = Some(next()),
+            other => panic!("{other}? usage: {USAGE}"),
+        }
+    }
+    o
+}
+
+/// Both listing programs, where the port's is at hand.
+fn listing(o: &Options) -> Option<Listing> {
+    let command = |program: String| [o.emulator.clone(), vec![program]].concat();
+    let beside = std::env::current_exe().ok()?.with_file_name("rust_list");
+    Some(Listing {
+        rust: command(beside.to_str()?.to_string()),
+        ours: command(o.list.clone()?),
+        file: o.root.join("target/compare/stream"),
+    })
+}
+
+fn main() {
+    let o = options();
+    let how = if o.emulator.is_empty() { "" } else { " (emulated)" };
+    if o.bench {
+        return bench::run(!o.emulator.is_empty(), listing(&o));
+    }
+    if let Some(file) = &o.record {
+        let (sample, cases) = record::sample(o.seed);
+        std::fs::write(file, &sample).unwrap_or_else(|e| panic!("{file}: {e}"));
+        return println!("seed {}: {cases} of the Rust's answers, {} bytes, written to {file}", o.seed, sample.len());
+    }
+    println!("seed {}, {} bytes of random streams{how}", o.seed, o.bytes);
+    let differences = o.root.join("docs/DIFFERENCES.md");
+    let mut report = Report::new(std::fs::read_to_string(&differences).unwrap_or_else(|e| panic!("{}: {e}", differences.display())));
+    framing::compare(&mut report, o.seed, o.bytes);
+    records::compare(&mut report, o.seed, 20_000.max(o.bytes / 100));
+    queries::compare(&mut report, o.seed);
+    match listing(&o) {
+        Some(listing) => listing.compare(&mut report, o.seed),
+        None => report.left_out("listing: whole programs, every line", "there is no program `list` (rt check list)"),
+    }
+    if !report.finish() {
+        std::process::exit(1);
+    }
+}

@@ -1,0 +1,241 @@
+//! The port's host entries, each behind a safe function that lends slices.
+use std::fmt;
+use uf_crsf::packets::{BaroAltitude, Battery, Gps, GpsExtended, LinkStatistics};
+
+/// What an entry answers: eight bytes in one register, which is how this struct is returned by value.
+#[repr(C)]
+#[derive(Clone, Copy, Default, PartialEq, Eq)]
+pub struct Answer {
+    pub number: u8,
+    pub taken: u8,
+    pub in_state: u8,
+    pub at: u8,
+    pub len: u8,
+    pub first: u8,
+    pub second: u8,
+    pub zero: u8,
+}
+
+pub const FRAME: u8 = 0;
+pub const OK: u8 = 0;
+pub const INVALID_SYNC: u8 = 1;
+pub const INVALID_PACKET_LENGTH: u8 = 2;
+pub const INVALID_CRC: u8 = 3;
+pub const INVALID_PAYLOAD_LENGTH: u8 = 4;
+pub const BUFFER_OVERFLOW: u8 = 5;
+pub const CHANNEL_RANGE: u8 = 6;
+pub const BAD_ADDRESS: u8 = 7;
+pub const BAD_STATE: u8 = 8;
+pub const MORE: u8 = 255;
+
+/// Start, end, and 64 places.
+pub type State = [u8; 66];
+
+impl fmt::Debug for Answer {
+    /// The number, and what is not 0 beside it.
+    fn fmt(&self, f: &mut fmt::Formatter<'_>) -> fmt::Result {
+        write!(f, "[{}", self.number)?;
+        let places = ["taken", "in_state", "at", "len", "first", "second", "zero"];
+        let values = [self.taken, self.in_state, self.at, self.len, self.first, self.second, self.zero];
+        for (place, value) in places.iter().zip(values).filter(|(_, value)| *value != 0) {
+            write!(f, " {place} {value}")?;
+        }
+        write!(f, "]")
+    }
+}
+
+impl Answer {
+    /// An answer that is a refusal and carries nothing.
+    pub fn refusal(number: u8) -> Answer {
+        Answer { number, ..Answer::default() }
+    }
+    /// What a writer or a save answers that wrote `len` bytes.
+    pub fn wrote(len: usize) -> Answer {
+        Answer { number: OK, len: len as u8, ..Answer::default() }
+    }
+}
+
+mod entry {
+    use super::Answer;
+    extern "C" {
+        pub fn crsf_next_raw_packet(state: *mut u8, state_len: usize, input: *const u8, input_len: usize) -> Answer;
+        pub fn crsf_reset(state: *mut u8, state_len: usize) -> Answer;
+        pub fn crsf_save(state: *const u8, state_len: usize, out: *mut u8, out_len: usize) -> Answer;
+        pub fn crsf_restore(state: *mut u8, state_len: usize, form: *const u8, form_len: usize) -> Answer;
+        pub fn crsf_held(state: *const u8, state_len: usize) -> Answer;
+        pub fn crsf_is_address(byte: u8) -> bool;
+        pub fn crsf_header_of(packet_type: u8) -> u8;
+        pub fn crsf_checksum(bytes: *const u8, len: usize) -> u8;
+        pub fn crsf_write_link_statistics(
+            b: *mut u8, n: usize, dest: u8, rssi_1: u8, rssi_2: u8, quality: u8, snr: i8, antenna: u8, rf_mode: u8, tx_power: u8, down_rssi: u8,
+            down_quality: u8, down_snr: i8,
+        ) -> Answer;
+        pub fn crsf_write_rc_channels_packed(b: *mut u8, n: usize, dest: u8, channels: *const u16, count: usize) -> Answer;
+        pub fn crsf_write_gps(
+            b: *mut u8, n: usize, dest: u8, latitude: i32, longitude: i32, groundspeed: u16, heading: u16, altitude: u16, satellites: u8,
+        ) -> Answer;
+        pub fn crsf_write_gps_extended(
+            b: *mut u8, n: usize, dest: u8, fix_type: u8, n_speed: i16, e_speed: i16, v_speed: i16, h_speed_acc: i16, track_acc: i16,
+            alt_ellipsoid: i16, h_acc: i16, v_acc: i16, reserved: u8, h_dop: u8, v_dop: u8,
+        ) -> Answer;
+        pub fn crsf_write_battery(b: *mut u8, n: usize, dest: u8, voltage: i16, current: i16, capacity_used: u32, remaining: u8, id: u8) -> Answer;
+        pub fn crsf_write_baro_altitude(b: *mut u8, n: usize, dest: u8, altitude_packed: u16, vertical_speed_packed: i8) -> Answer;
+        pub fn crsf_write_rpm(b: *mut u8, n: usize, dest: u8, rpm_source_id: u8, values: *const i32, count: usize) -> Answer;
+        pub fn crsf_read_link_statistics(p: *const u8, n: usize, out: *mut i32, out_len: usize) -> Answer;
+        pub fn crsf_read_rc_channels_packed(p: *const u8, n: usize, out: *mut u16, out_len: usize) -> Answer;
+        pub fn crsf_read_gps(p: *const u8, n: usize, out: *mut i32, out_len: usize) -> Answer;
+        pub fn crsf_read_gps_extended(p: *const u8, n: usize, out: *mut i32, out_len: usize) -> Answer;
+        pub fn crsf_read_battery(p: *const u8, n: usize, out: *mut i32, out_len: usize) -> Answer;
+        pub fn crsf_read_baro_altitude(p: *const u8, n: usize, out: *mut i32, out_len: usize) -> Answer;
+        pub fn crsf_read_rpm(p: *const u8, n: usize, out: *mut i32, out_len: usize) -> Answer;
+        #[cfg(altitudes)]
+        pub fn crsf_pack_altitude(decimetres: i32) -> u16;
+        #[cfg(altitudes)]
+        pub fn crsf_baro_decimetres(packed: u16) -> i32;
+        #[cfg(altitudes)]
+        pub fn crsf_gps_metres(raw: u16) -> i32;
+        #[cfg(microseconds)]
+        pub fn crsf_channel_microseconds(raw: u16, out: *mut f32, out_len: usize) -> Answer;
+    }
+}
+
+// Each entry reads and writes only the slices that it is lent, which is proved of it (docs/PROMISES.md).
+
+#[inline]
+pub fn next_raw_packet(state: &mut [u8], input: &[u8]) -> Answer {
+    unsafe { entry::crsf_next_raw_packet(state.as_mut_ptr(), state.len(), input.as_ptr(), input.len()) }
+}
+
+pub fn reset(state: &mut [u8]) -> Answer {
+    unsafe { entry::crsf_reset(state.as_mut_ptr(), state.len()) }
+}
+
+pub fn save(state: &[u8], out: &mut [u8]) -> Answer {
+    unsafe { entry::crsf_save(state.as_ptr(), state.len(), out.as_mut_ptr(), out.len()) }
+}
+
+pub fn restore(state: &mut [u8], form: &[u8]) -> Answer {
+    unsafe { entry::crsf_restore(state.as_mut_ptr(), state.len(), form.as_ptr(), form.len()) }
+}
+
+pub fn held(state: &[u8]) -> Answer {
+    unsafe { entry::crsf_held(state.as_ptr(), state.len()) }
+}
+
+pub fn is_address(byte: u8) -> bool {
+    unsafe { entry::crsf_is_address(byte) }
+}
+
+/// 0 unlisted, 1 short, 2 extended.
+pub fn header_of(packet_type: u8) -> u8 {
+    unsafe { entry::crsf_header_of(packet_type) }
+}
+
+#[inline]
+pub fn checksum(bytes: &[u8]) -> u8 {
+    unsafe { entry::crsf_checksum(bytes.as_ptr(), bytes.len()) }
+}
+
+#[inline]
+pub fn write_link_statistics(b: &mut [u8], dest: u8, r: &LinkStatistics) -> Answer {
+    unsafe {
+        entry::crsf_write_link_statistics(
+            b.as_mut_ptr(), b.len(), dest, r.uplink_rssi_1, r.uplink_rssi_2, r.uplink_link_quality, r.uplink_snr, r.active_antenna, r.rf_mode,
+            r.uplink_tx_power, r.downlink_rssi, r.downlink_link_quality, r.downlink_snr,
+        )
+    }
+}
+
+#[inline]
+pub fn write_rc_channels_packed(b: &mut [u8], dest: u8, channels: &[u16]) -> Answer {
+    unsafe { entry::crsf_write_rc_channels_packed(b.as_mut_ptr(), b.len(), dest, channels.as_ptr(), channels.len()) }
+}
+
+#[inline]
+pub fn write_gps(b: &mut [u8], dest: u8, r: &Gps) -> Answer {
+    unsafe {
+        entry::crsf_write_gps(b.as_mut_ptr(), b.len(), dest, r.latitude, r.longitude, r.groundspeed, r.heading, r.altitude, r.satellites)
+    }
+}
+
+#[inline]
+pub fn write_gps_extended(b: &mut [u8], dest: u8, r: &GpsExtended) -> Answer {
+    unsafe {
+        entry::crsf_write_gps_extended(
+            b.as_mut_ptr(), b.len(), dest, r.fix_type, r.n_speed, r.e_speed, r.v_speed, r.h_speed_acc, r.track_acc, r.alt_ellipsoid, r.h_acc,
+            r.v_acc, r.reserved, r.h_dop, r.v_dop,
+        )
+    }
+}
+
+#[inline]
+pub fn write_battery(b: &mut [u8], dest: u8, r: &Battery) -> Answer {
+    unsafe { entry::crsf_write_battery(b.as_mut_ptr(), b.len(), dest, r.voltage, r.current, r.capacity_used, r.remaining, r.id) }
+}
+
+#[inline]
+pub fn write_baro_altitude(b: &mut [u8], dest: u8, r: &BaroAltitude) -> Answer {
+    unsafe { entry::crsf_write_baro_altitude(b.as_mut_ptr(), b.len(), dest, r.altitude_packed, r.vertical_speed_packed) }
+}
+
+#[inline]
+pub fn write_rpm(b: &mut [u8], dest: u8, id: u8, values: &[i32]) -> Answer {
+    unsafe { entry::crsf_write_rpm(b.as_mut_ptr(), b.len(), dest, id, values.as_ptr(), values.len()) }
+}
+
+#[inline]
+pub fn read_link_statistics(p: &[u8], out: &mut [i32]) -> Answer {
+    unsafe { entry::crsf_read_link_statistics(p.as_ptr(), p.len(), out.as_mut_ptr(), out.len()) }
+}
+
+#[inline]
+pub fn read_rc_channels_packed(p: &[u8], out: &mut [u16]) -> Answer {
+    unsafe { entry::crsf_read_rc_channels_packed(p.as_ptr(), p.len(), out.as_mut_ptr(), out.len()) }
+}
+
+#[inline]
+pub fn read_gps(p: &[u8], out: &mut [i32]) -> Answer {
+    unsafe { entry::crsf_read_gps(p.as_ptr(), p.len(), out.as_mut_ptr(), out.len()) }
+}
+
+#[inline]
+pub fn read_gps_extended(p: &[u8], out: &mut [i32]) -> Answer {
+    unsafe { entry::crsf_read_gps_extended(p.as_ptr(), p.len(), out.as_mut_ptr(), out.len()) }
+}
+
+#[inline]
+pub fn read_battery(p: &[u8], out: &mut [i32]) -> Answer {
+    unsafe { entry::crsf_read_battery(p.as_ptr(), p.len(), out.as_mut_ptr(), out.len()) }
+}
+
+#[inline]
+pub fn read_baro_altitude(p: &[u8], out: &mut [i32]) -> Answer {
+    unsafe { entry::crsf_read_baro_altitude(p.as_ptr(), p.len(), out.as_mut_ptr(), out.len()) }
+}
+
+#[inline]
+pub fn read_rpm(p: &[u8], out: &mut [i32]) -> Answer {
+    unsafe { entry::crsf_read_rpm(p.as_ptr(), p.len(), out.as_mut_ptr(), out.len()) }
+}
+
+#[cfg(altitudes)]
+#[inline]
+pub fn pack_altitude(decimetres: i32) -> u16 {
+    unsafe { entry::crsf_pack_altitude(decimetres) }
+}
+
+#[cfg(altitudes)]
+#[inline]
+pub fn baro_decimetres(packed: u16) -> i32 {
+    unsafe { entry::crsf_baro_decimetres(packed) }
+}
+
+#[cfg(altitudes)]
+pub fn gps_metres(raw: u16) -> i32 {
+    unsafe { entry::crsf_gps_metres(raw) }
+}
+
+#[cfg(microseconds)]
+pub fn channel_microseconds(raw: u16, out: &mut [f32]) -> Answer {
+    unsafe { entry::crsf_channel_microseconds(raw, out.as_mut_ptr(), out.len()) }
+}

@@ -1,0 +1,58 @@
+-- `replay::read::are_values` is safe and ends. Assumes nothing.
+use Prim.Native.Nat.{_≤_, _-_}
+use borrow.Author.Needs.{needs}
+use Rattle.replay.proofs.read.are_values.Statement.{statement}
+use Rattle.replay.proofs.read.are_values.Tie as tie
+
+abbrev Inv-loop : tie.InvT-loop
+Inv-loop values f i₀ i = i ≤ 19
+
+abbrev μ-loop : tie.MeasureT-loop
+μ-loop values f i₀ i = 19 - i
+
+loop-holds : tie.Need-loop-holds Inv-loop μ-loop
+loop-holds c = search needs
+
+mul-if2 : tie.Need-mul-if2 Inv-loop μ-loop
+mul-if2 c = search needs
+
+shared-slice-copy-out-if2 : tie.Need-shared-slice-copy-out-if2 Inv-loop μ-loop
+shared-slice-copy-out-if2 c = search needs
+
+mul-i32-at : tie.Need-mul-i32-at Inv-loop μ-loop
+mul-i32-at c = search needs
+
+i32-at-requires : tie.Need-i32-at-requires Inv-loop μ-loop
+i32-at-requires c κs = search needs
+
+returns : tie.Need-returns Inv-loop μ-loop
+returns c = search needs
+
+add-i : tie.Need-add-i Inv-loop μ-loop
+add-i c = search needs
+
+loop-less : tie.Need-loop-less Inv-loop μ-loop
+loop-less c = search needs
+
+loop-again : tie.Need-loop-again Inv-loop μ-loop
+loop-again c = search needs
+
+returns-2 : tie.Need-returns-2 Inv-loop μ-loop
+returns-2 c = search needs
+
+pub are-values-spec : {M : Type 1} → statement M
+are-values-spec =
+    tie.close
+    (tie.spec
+    Inv-loop
+    μ-loop
+    loop-holds
+    mul-if2
+    shared-slice-copy-out-if2
+    mul-i32-at
+    i32-at-requires
+    returns
+    add-i
+    loop-less
+    loop-again
+    returns-2)

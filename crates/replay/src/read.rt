@@ -1,0 +1,178 @@
+// Records read from payloads: the refusal, or every field.
+use crate::case::Case;
+use crate::case::bytes_of;
+use crate::fields::i8_at;
+use crate::fields::i16_at;
+use crate::fields::i32_at;
+use crate::fields::u16_at;
+use crate::fields::u32_at;
+use base::byte_at;
+use channels::RcChannelsPacked;
+use layout::ReadAnswer;
+use positions::gps::Gps;
+use positions::gps::GpsRead;
+use positions::gps_extended::GpsExtended;
+use positions::gps_extended::GpsExtendedRead;
+use records::baro_altitude::BaroAltitude;
+use records::baro_altitude::BaroAltitudeRead;
+use records::battery::Battery;
+use records::battery::BatteryRead;
+use records::link_statistics::LinkStatistics;
+use records::link_statistics::LinkStatisticsRead;
+use rpm::Rpm;
+
+fn is_link_statistics(r: LinkStatistics, f: &[u8]) -> bool {
+    r.uplink_rssi_1 == byte_at(f, 3)
+        && r.uplink_rssi_2 == byte_at(f, 7)
+        && r.uplink_link_quality == byte_at(f, 11)
+        && r.uplink_snr == i8_at(f, 15)
+        && r.active_antenna == byte_at(f, 19)
+        && r.rf_mode == byte_at(f, 23)
+        && r.uplink_tx_power == byte_at(f, 27)
+        && r.downlink_rssi == byte_at(f, 31)
+        && r.downlink_link_quality == byte_at(f, 35)
+        && r.downlink_snr == i8_at(f, 39)
+}
+
+fn link_statistics(payload: &[u8], number: u8, f: &[u8]) -> bool {
+    match LinkStatistics::from_bytes(payload) {
+        LinkStatisticsRead::InvalidPayloadLength => number == 4,
+        LinkStatisticsRead::Record(r) => number == 0 && is_link_statistics(r, f),
+    }
+}
+
+fn is_gps(r: Gps, f: &[u8]) -> bool {
+    r.latitude == i32_at(f, 0)
+        && r.longitude == i32_at(f, 4)
+        && r.groundspeed == u16_at(f, 10)
+        && r.heading == u16_at(f, 14)
+        && r.altitude == u16_at(f, 18)
+        && r.satellites == byte_at(f, 23)
+}
+
+fn gps(payload: &[u8], number: u8, f: &[u8]) -> bool {
+    match Gps::from_bytes(payload) {
+        GpsRead::InvalidPayloadLength => number == 4,
+        GpsRead::Record(r) => number == 0 && is_gps(r, f),
+    }
+}
+
+fn is_gps_extended(r: GpsExtended, f: &[u8]) -> bool {
+    r.fix_type == byte_at(f, 3)
+        && r.n_speed == i16_at(f, 6)
+        && r.e_speed == i16_at(f, 10)
+        && r.v_speed == i16_at(f, 14)
+        && r.h_speed_acc == i16_at(f, 18)
+        && r.track_acc == i16_at(f, 22)
+        && r.alt_ellipsoid == i16_at(f, 26)
+        && r.h_acc == i16_at(f, 30)
+        && r.v_acc == i16_at(f, 34)
+        && r.reserved == byte_at(f, 39)
+        && r.h_dop == byte_at(f, 43)
+        && r.v_dop == byte_at(f, 47)
+}
+
+fn gps_extended(payload: &[u8], number: u8, f: &[u8]) -> bool {
+    match GpsExtended::from_bytes(payload) {
+        GpsExtendedRead::InvalidPayloadLength => number == 4,
+        GpsExtendedRead::Record(r) => number == 0 && is_gps_extended(r, f),
+    }
+}
+
+fn is_battery(r: Battery, f: &[u8]) -> bool {
+    r.voltage == i16_at(f, 2)
+        && r.current == i16_at(f, 6)
+        && r.capacity_used == u32_at(f, 8)
+        && r.remaining == byte_at(f, 15)
+        && r.id == byte_at(f, 19)
+}
+
+fn battery(payload: &[u8], number: u8, f: &[u8]) -> bool {
+    match Battery::from_bytes(payload) {
+        BatteryRead::InvalidPayloadLength => number == 4,
+        BatteryRead::Record(r) => number == 0 && is_battery(r, f),
+    }
+}
+
+fn is_baro_altitude(r: BaroAltitude, f: &[u8]) -> bool {
+    r.altitude_packed == u16_at(f, 2) && r.vertical_speed_packed == i8_at(f, 7)
+}
+
+fn baro_altitude(payload: &[u8], number: u8, f: &[u8]) -> bool {
+    match BaroAltitude::from_bytes(payload) {
+        BaroAltitudeRead::InvalidPayloadLength => number == 4,
+        BaroAltitudeRead::Record(r) => number == 0 && is_baro_altitude(r, f),
+    }
+}
+
+fn are_channels(channels: &[u16], f: &[u8]) -> bool {
+    let mut i = 0;
+    while i < 16 {
+        if i < channels.len() {
+            if channels[i] != u16_at(f, 4 * i + 2) {
+                return false;
+            }
+        }
+        i += 1;
+    }
+    true
+}
+
+fn channels(payload: &[u8], number: u8, f: &[u8]) -> bool {
+    let read = RcChannelsPacked::from_bytes(payload);
+    let answer = read.answer;
+    let packed = read.channels;
+    let sixteen = packed.0;
+    match answer {
+        ReadAnswer::InvalidPayloadLength => number == 4,
+        ReadAnswer::Record => number == 0 && are_channels(&sixteen, f),
+    }
+}
+
+// All nineteen places: those past the count are 0, which is what a lacking field reads as.
+fn are_values(values: &[i32], f: &[u8]) -> bool {
+    let mut i = 0;
+    while i < 19 {
+        if i < values.len() {
+            if values[i] != i32_at(f, 4 * i) {
+                return false;
+            }
+        }
+        i += 1;
+    }
+    true
+}
+
+fn rpm(payload: &[u8], number: u8, id: u8, f: &[u8]) -> bool {
+    let read = Rpm::from_bytes(payload);
+    let answer = read.answer;
+    let record = read.rpm;
+    let values = record.rpm_values;
+    match answer {
+        ReadAnswer::InvalidPayloadLength => number == 4,
+        ReadAnswer::Record => {
+            number == 0
+                && record.rpm_source_id == id
+                && record.count == f.len() / 4
+                && are_values(&values, f)
+        }
+    }
+}
+
+pub fn reads(page: &[u8], c: Case) -> bool {
+    let a = c.a;
+    let fields = c.c;
+    let e = c.expected;
+    let payload = bytes_of(page, a);
+    let f = bytes_of(page, fields);
+    let kind = c.kind;
+    match kind {
+        10 => link_statistics(payload, e.number, f),
+        11 => channels(payload, e.number, f),
+        12 => gps(payload, e.number, f),
+        13 => gps_extended(payload, e.number, f),
+        14 => battery(payload, e.number, f),
+        15 => baro_altitude(payload, e.number, f),
+        _ => rpm(payload, e.number, e.first, f),
+    }
+}
