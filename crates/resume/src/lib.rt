@@ -3,7 +3,6 @@ use parser::CrsfParser;
 use saved::Resumed;
 use saved::form::Restored;
 use saved::form::Saved;
-ghost use mathlib.Core.Path.{_≡_};
 ghost use Rattle.resume.specs.Lent.{Saves, Resumes};
 
 // What the parser holds is written as its saved form.
