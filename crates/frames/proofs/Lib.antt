@@ -1,3 +1,4 @@
+pub mod Addressed
 pub mod Built
 pub mod Fits
 pub mod Payload
