@@ -63,56 +63,58 @@ module _ (n dest kind : ℕ) (b : List ℕ) (room : n + 4 ≤ length b) where
       ∙ ap (pasted b 0) whole
 
 -- a frame about a payload put in its place first: nothing else is left of that
-module _ (b pay : List ℕ) (n dest kind : ℕ) (long : length pay ≡ n) where
-  frame-size : length (frame dest (kind ∷ pay)) ≡ n + 4
+module _ (pay : List ℕ) (n dest kind : ℕ) (long : length pay ≡ n) where
+  -- as many bytes as are told
+  pub frame-size : length (frame dest (kind ∷ pay)) ≡ n + 4
   unfolding frame
   frame-size = omega (arith, length-append pay (remainder (kind ∷ pay) ∷ []))
 
-  pub short : length b < n + 4 → (BufferOverflow, b) ≡ writeOf (framedBody dest kind (bytes pay)) b
-  unfolding framedBody
-  short = overflows (frame dest (kind ∷ pay)) b (n + 4) frame-size
-
-  module _ (room : n + 4 ≤ length b) where
-    there : part (pasted b 3 pay) 3 n ≡ pay
-    unfolding pasted
-    there =
-        ap (λ (l : List ℕ). take n (drop 3 l)) (append-assoc (take 3 b) pay (drop (3 + length pay) b))
-        ∙ ap (take n) (drop-at (take 3 b) (pay ++ drop (3 + length pay) b) 3 (length-take-le 3 b (omega arith)))
-        ∙ take-at pay (drop (3 + length pay) b) n long
-
-    behind : drop (n + 4) (pasted b 3 pay) ≡ drop (n + 4) b
-    unfolding pasted
-    behind =
-        let p : List ℕ = take 3 b ++ pay in
-        let three : length (take 3 b) ≡ 3 = length-take-le 3 b (omega arith) in
-        let e : 3 + length pay + 1 ≡ n + 4 = omega arith in
-        let f : n + 4 ≡ n + 3 + 1 = omega arith in
-        ap (λ (k : ℕ). drop k (p ++ drop (3 + length pay) b)) f
-        ∙ sym (drop-drop 1 (n + 3) (p ++ drop (3 + length pay) b))
-        ∙ ap (drop 1) (drop-at p (drop (3 + length pay) b) (n + 3) (length-append (take 3 b) pay ∙ omega arith))
-        ∙ drop-drop 1 (3 + length pay) b
-        ∙ ap (λ (k : ℕ). drop k b) e
-
-    covered : pasted (pasted b 3 pay) 0 (frame dest (kind ∷ pay)) ≡ pasted b 0 (frame dest (kind ∷ pay))
-    covered =
-        let f : List ℕ = frame dest (kind ∷ pay) in
-        pasted-front (pasted b 3 pay) f
-        ∙ ap (λ (k : ℕ). f ++ drop k (pasted b 3 pay)) frame-size
-        ∙ ap (λ (l : List ℕ). f ++ l) behind
-        ∙ ap (λ (k : ℕ). f ++ drop k b) (sym frame-size)
-        ∙ sym (pasted-front b f)
-
-    pub sealed : {b′ after : List ℕ} {r : Written} → b′ ≡ pasted b 3 pay
-        → (r ≡ Wrote (n + 4)) × (after ≡ pasted b′ 0 (frame dest (kind ∷ part b′ 3 n)))
-        → (r, after) ≡ writeOf (framedBody dest kind (bytes pay)) b
+  module _ (b : List ℕ) where
+    pub short : length b < n + 4 → (BufferOverflow, b) ≡ writeOf (framedBody dest kind (bytes pay)) b
     unfolding framedBody
-    sealed e answers =
-        let stored =
-        answers .1
-        ∙ ap (λ (l : List ℕ). pasted l 0 (frame dest (kind ∷ part l 3 n))) e
-        ∙ ap (λ (l : List ℕ). pasted (pasted b 3 pay) 0 (frame dest (kind ∷ l))) there
-        ∙ covered in
-        rw (answers .0, stored) (writes (frame dest (kind ∷ pay)) b (n + 4) frame-size room)
+    short = overflows (frame dest (kind ∷ pay)) b (n + 4) frame-size
+
+    module _ (room : n + 4 ≤ length b) where
+      there : part (pasted b 3 pay) 3 n ≡ pay
+      unfolding pasted
+      there =
+          ap (λ (l : List ℕ). take n (drop 3 l)) (append-assoc (take 3 b) pay (drop (3 + length pay) b))
+          ∙ ap (take n) (drop-at (take 3 b) (pay ++ drop (3 + length pay) b) 3 (length-take-le 3 b (omega arith)))
+          ∙ take-at pay (drop (3 + length pay) b) n long
+
+      behind : drop (n + 4) (pasted b 3 pay) ≡ drop (n + 4) b
+      unfolding pasted
+      behind =
+          let p : List ℕ = take 3 b ++ pay in
+          let three : length (take 3 b) ≡ 3 = length-take-le 3 b (omega arith) in
+          let e : 3 + length pay + 1 ≡ n + 4 = omega arith in
+          let f : n + 4 ≡ n + 3 + 1 = omega arith in
+          ap (λ (k : ℕ). drop k (p ++ drop (3 + length pay) b)) f
+          ∙ sym (drop-drop 1 (n + 3) (p ++ drop (3 + length pay) b))
+          ∙ ap (drop 1) (drop-at p (drop (3 + length pay) b) (n + 3) (length-append (take 3 b) pay ∙ omega arith))
+          ∙ drop-drop 1 (3 + length pay) b
+          ∙ ap (λ (k : ℕ). drop k b) e
+
+      covered : pasted (pasted b 3 pay) 0 (frame dest (kind ∷ pay)) ≡ pasted b 0 (frame dest (kind ∷ pay))
+      covered =
+          let f : List ℕ = frame dest (kind ∷ pay) in
+          pasted-front (pasted b 3 pay) f
+          ∙ ap (λ (k : ℕ). f ++ drop k (pasted b 3 pay)) frame-size
+          ∙ ap (λ (l : List ℕ). f ++ l) behind
+          ∙ ap (λ (k : ℕ). f ++ drop k b) (sym frame-size)
+          ∙ sym (pasted-front b f)
+
+      pub sealed : {b′ after : List ℕ} {r : Written} → b′ ≡ pasted b 3 pay
+          → (r ≡ Wrote (n + 4)) × (after ≡ pasted b′ 0 (frame dest (kind ∷ part b′ 3 n)))
+          → (r, after) ≡ writeOf (framedBody dest kind (bytes pay)) b
+      unfolding framedBody
+      sealed e answers =
+          let stored =
+          answers .1
+          ∙ ap (λ (l : List ℕ). pasted l 0 (frame dest (kind ∷ part l 3 n))) e
+          ∙ ap (λ (l : List ℕ). pasted (pasted b 3 pay) 0 (frame dest (kind ∷ l))) there
+          ∙ covered in
+          rw (answers .0, stored) (writes (frame dest (kind ∷ pay)) b (n + 4) frame-size room)
 
 -- a record's own writer in the bytes behind the head puts the payload there
 pub in-place : (b pay : List ℕ) (n : ℕ) → length pay ≡ n → n + 4 ≤ length b → {w : Written} {ys : List ℕ}

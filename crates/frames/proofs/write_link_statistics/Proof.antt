@@ -24,7 +24,7 @@ returns-2 c =
     let a = right .before .before .before .args in
     let pay : List ℕ = recordBytes linkStatisticsLayout (linkStatisticsValues (a .packet)) in
     addressed (a .dest) 20 (linkStatisticsImage (a .packet)) (a .buffer .now) (right .before .is-address .ensures) (right .if1 .left)
-    (short (a .buffer .now) pay 10 (a .dest) 20 (link-statistics-long (a .packet)) (c .if2 .taken))
+    (short pay 10 (a .dest) 20 (link-statistics-long (a .packet)) (a .buffer .now) (c .if2 .taken))
 
 sub-to-bytes : tie.Need-sub-to-bytes
 sub-to-bytes c = search needs
@@ -55,7 +55,7 @@ returns-3 c =
     let pay : List ℕ = recordBytes linkStatisticsLayout (linkStatisticsValues (a .packet)) in
     let long = link-statistics-long (a .packet) in
     addressed (a .dest) 20 (linkStatisticsImage (a .packet)) b (right .before .is-address .ensures) (right .if1 .left)
-    (sealed b pay 10 (a .dest) 20 long (room .if2 .left) (in-place b pay 10 long (room .if2 .left) (record-made .to-bytes .ensures)) (framing .seal .ensures))
+    (sealed pay 10 (a .dest) 20 long b (room .if2 .left) (in-place b pay 10 long (room .if2 .left) (record-made .to-bytes .ensures)) (framing .seal .ensures))
 
 pub write-link-statistics-spec : {M : Type 1} → statement M
 write-link-statistics-spec =

@@ -17,7 +17,7 @@ add-if1 c = search needs
 returns : tie.Need-returns
 returns c =
     let a = c .before .before .before .args in
-    short (a .buffer .now) (take (a .size) (a .payload .now)) (a .size) (a .dest) (a .kind) (length-take-le (a .size) (a .payload .now) (omega arith)) (c .if1 .taken)
+    short (take (a .size) (a .payload .now)) (a .size) (a .dest) (a .kind) (length-take-le (a .size) (a .payload .now) (omega arith)) (a .buffer .now) (c .if1 .taken)
 
 copy-in-requires : tie.Need-copy-in-requires
 copy-in-requires c κs = search needs
@@ -35,7 +35,7 @@ returns-2 c =
     let room = copy .before .before in
     let a = room .before .before .before .args in
     let pay : List ℕ = take (a .size) (a .payload .now) in
-    sealed (a .buffer .now) pay (a .size) (a .dest) (a .kind) (length-take-le (a .size) (a .payload .now) (omega arith)) (room .if1 .left)
+    sealed pay (a .size) (a .dest) (a .kind) (length-take-le (a .size) (a .payload .now) (omega arith)) (a .buffer .now) (room .if1 .left)
     (copy .copy-in .ensures ∙ paste-pasted (a .buffer .now) (a .payload .now) 3 (a .size) (omega arith)) (framing .seal .ensures)
 
 pub put-frame-spec : {M : Type 1} → statement M
