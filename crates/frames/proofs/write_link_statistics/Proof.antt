@@ -1,12 +1,8 @@
 -- `frames::write_link_statistics` meets its contract: the record is written in its place, and framed there. Assumes nothing.
-use mathlib.Core.List.{List}
-use Prim.Native.Nat.{ℕ}
 use borrow.Author.Needs.{needs}
-use Rattle.layout.specs.Layout.{recordBytes}
-use Rattle.records.specs.LinkStatistics.{linkStatisticsLayout, linkStatisticsValues, linkStatisticsImage}
+use Rattle.records.specs.LinkStatistics.{linkStatisticsImage}
 use Rattle.records.proofs.Laws.{link-statistics-long}
-use Rattle.frames.proofs.Addressed.{unaddressed, addressed}
-use Rattle.frames.proofs.Built.{short, sealed, in-place}
+use Rattle.frames.proofs.Addressed.{unaddressed, record-short, record-sealed}
 use Rattle.frames.proofs.write_link_statistics.Statement.{statement}
 use Rattle.frames.proofs.write_link_statistics.Tie as tie
 
@@ -22,9 +18,7 @@ returns-2 : tie.Need-returns-2
 returns-2 c =
     let right = c .before in
     let a = right .before .before .before .args in
-    let pay : List ℕ = recordBytes linkStatisticsLayout (linkStatisticsValues (a .packet)) in
-    addressed (a .dest) 20 (linkStatisticsImage (a .packet)) (a .buffer .now) (right .before .is-address .ensures) (right .if1 .left)
-    (short pay 10 (a .dest) 20 (link-statistics-long (a .packet)) (a .buffer .now) (c .if2 .taken))
+    record-short _ 10 (a .dest) 20 (link-statistics-long (a .packet)) (a .buffer .now) (right .before .is-address .ensures) (right .if1 .left) (c .if2 .taken)
 
 sub-to-bytes : tie.Need-sub-to-bytes
 sub-to-bytes c = search needs
@@ -51,11 +45,8 @@ returns-3 c =
     let room = record-made .before .before in
     let right = room .before in
     let a = right .before .before .before .args in
-    let b : List ℕ = a .buffer .now in
-    let pay : List ℕ = recordBytes linkStatisticsLayout (linkStatisticsValues (a .packet)) in
-    let long = link-statistics-long (a .packet) in
-    addressed (a .dest) 20 (linkStatisticsImage (a .packet)) b (right .before .is-address .ensures) (right .if1 .left)
-    (sealed pay 10 (a .dest) 20 long b (room .if2 .left) (in-place b pay 10 long (room .if2 .left) (record-made .to-bytes .ensures)) (framing .seal .ensures))
+    record-sealed _ 10 (a .dest) 20 (link-statistics-long (a .packet)) (a .buffer .now) (right .before .is-address .ensures) (right .if1 .left)
+    (room .if2 .left) (record-made .to-bytes .ensures) (framing .seal .ensures)
 
 pub write-link-statistics-spec : {M : Type 1} → statement M
 write-link-statistics-spec =
