@@ -1,4 +1,5 @@
 pub mod Built
+pub mod Addressed
 pub mod Fits
 pub mod Payload
 pub mod Laws

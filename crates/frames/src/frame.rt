@@ -5,12 +5,14 @@ use layout::Written;
 use packets::is_address;
 ghost use mathlib.Core.Path.{_≡_};
 ghost use mathlib.Core.List.{[], _∷_};
-ghost use Prim.Native.Nat.{_≤_, _<_};
+ghost use Prim.Native.Nat.{_+_, _≤_, _<_};
 ghost use lib.ListN.{length, take};
 ghost use lib.Seq.{slice};
-ghost use Rattle.base.specs.Parts.{pasted};
+ghost use Rattle.base.specs.Parts.{part, pasted};
 ghost use Rattle.crc.specs.Remainder.{remainder};
+ghost use Rattle.reading.specs.Frame.{frame};
 ghost use Rattle.layout.specs.Writing.{bytes, writeOf};
+ghost use Rattle.layout.specs.declared.Written.the-variants.{Wrote};
 ghost use Rattle.frames.specs.Frames.{framedBody, framed, imageIn, sizeIn};
 
 fn narrow(n: usize) -> u8
@@ -39,6 +41,16 @@ fn put_check(buffer: &mut [u8], last: usize)
     buffer[last] = check;
 }
 
+// The frame of the size bytes that stand in their place already, behind the head's.
+pub fn seal(buffer: &mut [u8], dest: u8, kind: u8, size: usize) -> Written
+    requires { ⌜ (size ≤ 60) × (size + 4 ≤ length (now buffer)) ⌝ }
+    ensures { λ r. ⌜ (r ≡ Wrote (size + 4)) × (now (buffer .exit) ≡ pasted (now (buffer .entry)) 0 (frame dest (kind ∷ part (now (buffer .entry)) 3 size))) ⌝ }
+{
+    put_head(buffer, dest, narrow(size + 2), kind);
+    put_check(buffer, size + 3);
+    Written::Wrote(size + 4)
+}
+
 // The frame of the first size bytes of the payload.
 fn put_frame(buffer: &mut [u8], dest: u8, kind: u8, payload: &[u8], size: usize) -> Written
     requires { ⌜ (size ≤ 60) × (size ≤ length (now payload)) ⌝ }
@@ -47,10 +59,8 @@ fn put_frame(buffer: &mut [u8], dest: u8, kind: u8, payload: &[u8], size: usize)
     if buffer.len() < size + 4 {
         return Written::BufferOverflow;
     }
-    put_head(buffer, dest, narrow(size + 2), kind);
     copy_in(buffer, 3, payload, size);
-    put_check(buffer, size + 3);
-    Written::Wrote(size + 4)
+    seal(buffer, dest, kind, size)
 }
 
 // The frame of what a record's writer left in the payload, or the record's own refusal.

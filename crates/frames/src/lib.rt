@@ -3,8 +3,10 @@
 mod frame;
 
 use channels::RcChannelsPacked;
+use frame::seal;
 use frame::write_frame;
 use layout::Written;
+use packets::is_address;
 use positions::gps::Gps;
 use positions::gps_extended::GpsExtended;
 use records::baro_altitude::BaroAltitude;
@@ -25,9 +27,14 @@ ghost use Rattle.frames.specs.Frames.{framed};
 pub fn write_link_statistics(buffer: &mut [u8], dest: u8, packet: LinkStatistics) -> Written
     ensures { λ r. ⌜ (r, now (buffer .exit)) ≡ writeOf (framed dest 0x14 (linkStatisticsImage packet)) (now (buffer .entry)) ⌝ }
 {
-    let mut payload = [0u8; 60];
-    let written = packet.to_bytes(&mut payload);
-    write_frame(buffer, dest, LinkStatistics::PACKET_TYPE, &payload, written)
+    if !is_address(dest) {
+        return Written::BadAddress;
+    }
+    if buffer.len() < 14 {
+        return Written::BufferOverflow;
+    }
+    packet.to_bytes(&mut buffer[3..]);
+    seal(buffer, dest, LinkStatistics::PACKET_TYPE, 10)
 }
 
 pub fn write_rc_channels_packed(buffer: &mut [u8], dest: u8, packet: RcChannelsPacked) -> Written
