@@ -54,17 +54,27 @@ pub fn write_rc_channels_packed(buffer: &mut [u8], dest: u8, packet: RcChannelsP
 pub fn write_gps(buffer: &mut [u8], dest: u8, packet: Gps) -> Written
     ensures { λ r. ⌜ (r, now (buffer .exit)) ≡ writeOf (framed dest 0x02 (gpsImage packet)) (now (buffer .entry)) ⌝ }
 {
-    let mut payload = [0u8; 60];
-    let written = packet.to_bytes(&mut payload);
-    write_frame(buffer, dest, Gps::PACKET_TYPE, &payload, written)
+    if !is_address(dest) {
+        return Written::BadAddress;
+    }
+    if buffer.len() < 19 {
+        return Written::BufferOverflow;
+    }
+    packet.to_bytes(&mut buffer[3..]);
+    seal(buffer, dest, Gps::PACKET_TYPE, 15)
 }
 
 pub fn write_gps_extended(buffer: &mut [u8], dest: u8, packet: GpsExtended) -> Written
     ensures { λ r. ⌜ (r, now (buffer .exit)) ≡ writeOf (framed dest 0x06 (gpsExtendedImage packet)) (now (buffer .entry)) ⌝ }
 {
-    let mut payload = [0u8; 60];
-    let written = packet.to_bytes(&mut payload);
-    write_frame(buffer, dest, GpsExtended::PACKET_TYPE, &payload, written)
+    if !is_address(dest) {
+        return Written::BadAddress;
+    }
+    if buffer.len() < 24 {
+        return Written::BufferOverflow;
+    }
+    packet.to_bytes(&mut buffer[3..]);
+    seal(buffer, dest, GpsExtended::PACKET_TYPE, 20)
 }
 
 pub fn write_battery(buffer: &mut [u8], dest: u8, packet: Battery) -> Written
@@ -78,9 +88,14 @@ pub fn write_battery(buffer: &mut [u8], dest: u8, packet: Battery) -> Written
 pub fn write_baro_altitude(buffer: &mut [u8], dest: u8, packet: BaroAltitude) -> Written
     ensures { λ r. ⌜ (r, now (buffer .exit)) ≡ writeOf (framed dest 0x09 (baroAltitudeImage packet)) (now (buffer .entry)) ⌝ }
 {
-    let mut payload = [0u8; 60];
-    let written = packet.to_bytes(&mut payload);
-    write_frame(buffer, dest, BaroAltitude::PACKET_TYPE, &payload, written)
+    if !is_address(dest) {
+        return Written::BadAddress;
+    }
+    if buffer.len() < 7 {
+        return Written::BufferOverflow;
+    }
+    packet.to_bytes(&mut buffer[3..]);
+    seal(buffer, dest, BaroAltitude::PACKET_TYPE, 3)
 }
 
 pub fn write_rpm(buffer: &mut [u8], dest: u8, packet: Rpm) -> Written
