@@ -42,7 +42,7 @@ fn put_check(buffer: &mut [u8], last: usize)
 }
 
 // The frame of the size bytes that stand in their place already, behind the head's.
-pub fn seal(buffer: &mut [u8], dest: u8, kind: u8, size: usize) -> Written
+pub(crate) fn seal(buffer: &mut [u8], dest: u8, kind: u8, size: usize) -> Written
     requires { ⌜ (size ≤ 60) × (size + 4 ≤ length (now buffer)) ⌝ }
     ensures { λ r. ⌜ (r ≡ Wrote (size + 4)) × (now (buffer .exit) ≡ pasted (now (buffer .entry)) 0 (frame dest (kind ∷ part (now (buffer .entry)) 3 size))) ⌝ }
 {
@@ -78,7 +78,7 @@ fn write_body(buffer: &mut [u8], dest: u8, kind: u8, payload: &[u8], written: Wr
 }
 
 // The same, where the address is tested first.
-pub fn write_frame(
+pub(crate) fn write_frame(
     buffer: &mut [u8],
     dest: u8,
     kind: u8,
