@@ -18,12 +18,12 @@ use Rattle.stream.specs.declared.step.Answer.{Answer}
 use Rattle.stream.specs.declared.step.Answer.the-variants.{Stop, InPiece, InHeld, InvalidSync, InvalidPacketLength, InvalidCrc, BadState}
 use Rattle.stream.specs.declared.step.Answered.{Answered}
 use Rattle.stream.proofs.Unique.{one-lent}
-use Rattle.host.specs.declared.answer.Told.{Told}
-use Rattle.host.specs.Answer.{packed, lowestFirst}
-use Rattle.host.specs.Call.{toldAnswer, toldCall, Calls, AnswerFits}
-use Rattle.host.specs.Seen.{unpacked, Shown, shown}
-use Rattle.host.proofs.Fits.{call-fits}
-use Rattle.host.proofs.Packing.{unpack}
+use Rattle.told.specs.declared.answer.Told.{Told}
+use Rattle.told.specs.Answer.{packed, lowestFirst}
+use Rattle.told.specs.Call.{toldAnswer, toldCall, Calls, AnswerFits}
+use Rattle.told.specs.Seen.{unpacked, Shown, shown}
+use Rattle.told.proofs.Fits.{call-fits}
+use Rattle.told.proofs.Packing.{unpack}
 use Rattle.host.proofs.state.crsf_next_raw_packet.Reads as next-raw-packet
 use Rattle.host.proofs.state.crsf_reset.Reads as reset
 use Rattle.host.proofs.state.crsf_save.Reads as save

@@ -1,7 +1,1 @@
-pub mod Answer
-pub mod Call
-pub mod State
-pub mod Write
-pub mod Read
 pub mod Query
-pub mod Seen

@@ -1,5 +1,4 @@
-// Entries for a host in Rust or C: they take numbers and slices, and answer eight bytes in one number.
-mod answer;
+// Entries for a host in Rust or C: they take numbers and slices. Most answer eight bytes in one number.
 pub mod query;
 pub mod read;
 pub mod state;

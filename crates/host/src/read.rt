@@ -1,10 +1,4 @@
 // Readers of payloads: a record's numbers, in the order of its fields, at the front of a lent slice. Refusals are 4, then 5; nothing is written then.
-use crate::answer::Told;
-use crate::answer::count;
-use crate::answer::narrow;
-use crate::answer::pack;
-use crate::answer::placed;
-use crate::answer::refuse;
 use channels::RcChannelsPacked;
 use layout::ReadAnswer;
 use positions::gps::Gps;
@@ -18,60 +12,26 @@ use records::battery::BatteryRead;
 use records::link_statistics::LinkStatistics;
 use records::link_statistics::LinkStatisticsRead;
 use rpm::Rpm;
+use told::answer::narrow;
+use told::answer::placed;
+use told::answer::refuse;
+use values::baro_altitude_values;
+use values::battery_values;
+use values::give;
+use values::give_channels;
+use values::gps_extended_values;
+use values::gps_values;
+use values::link_statistics_values;
+use values::run;
 ghost use mathlib.Core.Path.{_≡_};
-ghost use mathlib.Core.List.{_++_};
-ghost use Prim.Native.Nat.{_^_, _≤_, _<_};
-ghost use lib.ListN.{length, take, drop};
-ghost use Rattle.records.specs.LinkStatistics.{linkStatisticsValues, linkStatisticsRead};
-ghost use Rattle.positions.specs.Gps.{gpsValues, gpsRead};
-ghost use Rattle.positions.specs.GpsExtended.{gpsExtendedValues, gpsExtendedRead};
-ghost use Rattle.records.specs.Battery.{batteryValues, batteryRead};
-ghost use Rattle.records.specs.BaroAltitude.{baroAltitudeValues, baroAltitudeRead};
+ghost use Rattle.records.specs.LinkStatistics.{linkStatisticsRead};
+ghost use Rattle.positions.specs.Gps.{gpsRead};
+ghost use Rattle.positions.specs.GpsExtended.{gpsExtendedRead};
+ghost use Rattle.records.specs.Battery.{batteryRead};
+ghost use Rattle.records.specs.BaroAltitude.{baroAltitudeRead};
 ghost use Rattle.channels.specs.Channels.{channelsRead};
 ghost use Rattle.rpm.specs.Rpm.{rpmRead};
-ghost use Rattle.host.specs.Answer.{toldCount};
-ghost use Rattle.host.specs.Read.{given, gives, givesChannels, toldRun, givesRpm};
-
-fn copy_numbers(out: &mut [i32], values: &[i32], n: usize)
-    requires { ⌜ (n ≤ length (now out)) × (n ≤ length (now values)) ⌝ }
-    ensures { λ _. ⌜ now (out .exit) ≡ take n (now (values .entry)) ++ drop n (now (out .entry)) ⌝ }
-{
-    let mut i = 0;
-    while i < n {
-        let v = values[i];
-        out[i] = v;
-        i += 1;
-    }
-}
-
-// The first n of the values, and what is told of them.
-fn give(told: Told, values: &[i32], n: usize, out: &mut [i32]) -> u64
-    requires { ⌜ n ≤ length (now values) ⌝ }
-    ensures { λ r. ⌜ (r, now (out .exit)) ≡ given told (take n (now (values .entry))) (now (out .entry)) ⌝ }
-{
-    if out.len() < n {
-        return refuse(5);
-    }
-    copy_numbers(out, values, n);
-    pack(told)
-}
-
-fn link_statistics_values(x: LinkStatistics) -> [i32; 10]
-    ensures { λ r. ⌜ r ≡ linkStatisticsValues x ⌝ }
-{
-    [
-        x.uplink_rssi_1 as i32,
-        x.uplink_rssi_2 as i32,
-        x.uplink_link_quality as i32,
-        x.uplink_snr as i32,
-        x.active_antenna as i32,
-        x.rf_mode as i32,
-        x.uplink_tx_power as i32,
-        x.downlink_rssi as i32,
-        x.downlink_link_quality as i32,
-        x.downlink_snr as i32,
-    ]
-}
+ghost use Rattle.values.specs.Read.{gives, givesChannels, givesRpm};
 
 #[no_mangle]
 pub extern "C" fn crsf_read_link_statistics(payload: &[u8], out: &mut [i32]) -> u64
@@ -85,19 +45,6 @@ pub extern "C" fn crsf_read_link_statistics(payload: &[u8], out: &mut [i32]) -> 
         }
         LinkStatisticsRead::InvalidPayloadLength => refuse(4),
     }
-}
-
-fn gps_values(x: Gps) -> [i32; 6]
-    ensures { λ r. ⌜ r ≡ gpsValues x ⌝ }
-{
-    [
-        x.latitude,
-        x.longitude,
-        x.groundspeed as i32,
-        x.heading as i32,
-        x.altitude as i32,
-        x.satellites as i32,
-    ]
 }
 
 #[no_mangle]
@@ -114,25 +61,6 @@ pub extern "C" fn crsf_read_gps(payload: &[u8], out: &mut [i32]) -> u64
     }
 }
 
-fn gps_extended_values(x: GpsExtended) -> [i32; 12]
-    ensures { λ r. ⌜ r ≡ gpsExtendedValues x ⌝ }
-{
-    [
-        x.fix_type as i32,
-        x.n_speed as i32,
-        x.e_speed as i32,
-        x.v_speed as i32,
-        x.h_speed_acc as i32,
-        x.track_acc as i32,
-        x.alt_ellipsoid as i32,
-        x.h_acc as i32,
-        x.v_acc as i32,
-        x.reserved as i32,
-        x.h_dop as i32,
-        x.v_dop as i32,
-    ]
-}
-
 #[no_mangle]
 pub extern "C" fn crsf_read_gps_extended(payload: &[u8], out: &mut [i32]) -> u64
     ensures { λ r. ⌜ (r, now (out .exit)) ≡ gives (gpsExtendedRead (now (payload .entry))) (now (out .entry)) ⌝ }
@@ -145,19 +73,6 @@ pub extern "C" fn crsf_read_gps_extended(payload: &[u8], out: &mut [i32]) -> u64
         }
         GpsExtendedRead::InvalidPayloadLength => refuse(4),
     }
-}
-
-fn battery_values(x: Battery) -> [i32; 5]
-    requires { ⌜ x .«capacity_used» < 2 ^ 24 ⌝ }
-    ensures { λ r. ⌜ r ≡ batteryValues x ⌝ }
-{
-    [
-        x.voltage as i32,
-        x.current as i32,
-        x.capacity_used as i32,
-        x.remaining as i32,
-        x.id as i32,
-    ]
 }
 
 #[no_mangle]
@@ -174,12 +89,6 @@ pub extern "C" fn crsf_read_battery(payload: &[u8], out: &mut [i32]) -> u64
     }
 }
 
-fn baro_altitude_values(x: BaroAltitude) -> [i32; 2]
-    ensures { λ r. ⌜ r ≡ baroAltitudeValues x ⌝ }
-{
-    [x.altitude_packed as i32, x.vertical_speed_packed as i32]
-}
-
 #[no_mangle]
 pub extern "C" fn crsf_read_baro_altitude(payload: &[u8], out: &mut [i32]) -> u64
     ensures { λ r. ⌜ (r, now (out .exit)) ≡ gives (baroAltitudeRead (now (payload .entry))) (now (out .entry)) ⌝ }
@@ -194,28 +103,6 @@ pub extern "C" fn crsf_read_baro_altitude(payload: &[u8], out: &mut [i32]) -> u6
     }
 }
 
-fn copy_channels(out: &mut [u16], channels: &[u16], n: usize)
-    requires { ⌜ (n ≤ length (now out)) × (n ≤ length (now channels)) ⌝ }
-    ensures { λ _. ⌜ now (out .exit) ≡ take n (now (channels .entry)) ++ drop n (now (out .entry)) ⌝ }
-{
-    let mut i = 0;
-    while i < n {
-        out[i] = channels[i];
-        i += 1;
-    }
-}
-
-fn give_channels(channels: RcChannelsPacked, out: &mut [u16]) -> u64
-    ensures { λ r. ⌜ (r, now (out .exit)) ≡ given (toldCount 16) (channels .0) (now (out .entry)) ⌝ }
-{
-    if out.len() < 16 {
-        return refuse(5);
-    }
-    let all = channels.0;
-    copy_channels(out, &all, 16);
-    count(16)
-}
-
 #[no_mangle]
 pub extern "C" fn crsf_read_rc_channels_packed(payload: &[u8], out: &mut [u16]) -> u64
     ensures { λ r. ⌜ (r, now (out .exit)) ≡ givesChannels (channelsRead (now (payload .entry))) (now (out .entry)) ⌝ }
@@ -226,20 +113,6 @@ pub extern "C" fn crsf_read_rc_channels_packed(payload: &[u8], out: &mut [u16]) 
     match answer {
         ReadAnswer::Record => give_channels(channels, out),
         ReadAnswer::InvalidPayloadLength => refuse(4),
-    }
-}
-
-fn run(n: u8, id: u8) -> Told
-    ensures { λ r. ⌜ r ≡ toldRun n id ⌝ }
-{
-    Told {
-        number: 0,
-        taken: 0,
-        in_state: 0,
-        at: 0,
-        len: n,
-        first: id,
-        second: 0,
     }
 }
 

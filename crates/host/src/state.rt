@@ -1,21 +1,20 @@
 // The stream, over a state of 66 lent bytes: start, end, then the 64 places.
-use crate::answer::count;
-use crate::answer::pack;
-use crate::answer::refuse;
-use crate::answer::told_call;
 use base::wide;
-use saved::form::Restored;
-use saved::form::Saved;
 use saved::lent::reset_lent;
 use saved::lent::restore_lent;
 use saved::lent::save_lent;
 use stream::lent::step_lent;
+use told::answer::count;
+use told::answer::pack;
+use told::answer::refuse;
+use told::call::told_call;
+use told::saving::restored_answer;
+use told::saving::saved_answer;
 ghost use mathlib.Core.Path.{_≡_};
-ghost use Prim.Native.Nat.{_<_};
-ghost use Rattle.saved.specs.Save.{toldBySave, toldByRestore, saveLentOf, restoreLentOf, resetLentOf};
-ghost use Rattle.host.specs.Answer.{packed};
-ghost use Rattle.host.specs.Call.{Calls};
-ghost use Rattle.host.specs.State.{toldState, tells, heldCount};
+ghost use Rattle.saved.specs.Save.{saveLentOf, restoreLentOf, resetLentOf};
+ghost use Rattle.told.specs.Answer.{packed};
+ghost use Rattle.told.specs.Call.{Calls};
+ghost use Rattle.told.specs.State.{tells, heldCount};
 
 // One call: the first answer of the held bytes followed by the input.
 #[no_mangle]
@@ -23,27 +22,6 @@ pub extern "C" fn crsf_next_raw_packet(state: &mut [u8], input: &[u8]) -> u64
     ensures { λ r. ⌜ Calls (now (state .entry)) (now (input .entry)) (now (state .exit)) r ⌝ }
 {
     pack(told_call(step_lent(state, input)))
-}
-
-fn saved_answer(saved: Saved) -> u64
-    requires { ⌜ toldBySave saved .count < 256 ⌝ }
-    ensures { λ r. ⌜ r ≡ packed (toldState (toldBySave saved)) ⌝ }
-{
-    match saved {
-        Saved::Wrote(n) => count(n),
-        Saved::BufferOverflow => refuse(5),
-        Saved::BadState => refuse(8),
-    }
-}
-
-fn restored_answer(restored: Restored) -> u64
-    requires { ⌜ toldByRestore restored .count < 256 ⌝ }
-    ensures { λ r. ⌜ r ≡ packed (toldState (toldByRestore restored)) ⌝ }
-{
-    match restored {
-        Restored::Held(n) => count(n),
-        Restored::BadState => refuse(8),
-    }
 }
 
 // Forgets the held bytes.

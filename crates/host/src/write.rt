@@ -1,20 +1,15 @@
 // Writers of whole frames: a record's numbers, each as a parameter of its own, and the frame's address. Refusals are 7, then 4 or 6, then 5; nothing is
 // written then.
-use crate::answer::count;
-use crate::answer::narrow;
-use crate::answer::pack;
-use crate::answer::refuse;
-use crate::answer::said;
 use channels::RcChannelsPacked;
 use layout::ReadAnswer;
-use layout::Written;
-use packets::is_address;
 use positions::gps::Gps;
 use positions::gps_extended::GpsExtended;
 use records::baro_altitude::BaroAltitude;
 use records::battery::Battery;
 use records::link_statistics::LinkStatistics;
 use rpm::Rpm;
+use told::writing::no_record;
+use told::writing::wrote;
 ghost use mathlib.Core.Path.{_≡_};
 ghost use lib.ListN.{length};
 ghost use Rattle.records.specs.LinkStatistics.{linkStatisticsImage};
@@ -22,31 +17,7 @@ ghost use Rattle.positions.specs.Gps.{gpsImage};
 ghost use Rattle.positions.specs.GpsExtended.{gpsExtendedImage};
 ghost use Rattle.records.specs.Battery.{batteryImage};
 ghost use Rattle.records.specs.BaroAltitude.{baroAltitudeImage};
-ghost use Rattle.host.specs.Answer.{packed};
-ghost use Rattle.host.specs.Write.{toldWritten, WrittenFits, refusedFor, frames, sixteenImage, newRpmImage};
-
-fn wrote(written: Written) -> u64
-    requires { ⌜ WrittenFits written ⌝ }
-    ensures { λ r. ⌜ r ≡ packed (toldWritten written) ⌝ }
-{
-    match written {
-        Written::Wrote(n) => count(n),
-        Written::InvalidPayloadLength => refuse(4),
-        Written::BufferOverflow => refuse(5),
-        Written::ChannelRange(index) => pack(said(6, 0, narrow(index), 0)),
-        Written::BadAddress => refuse(7),
-    }
-}
-
-// The answer where there is no record to write: the address is tested first all the same.
-fn no_record(dest: u8) -> Written
-    ensures { λ r. ⌜ r ≡ refusedFor dest ⌝ }
-{
-    if is_address(dest) {
-        return Written::InvalidPayloadLength;
-    }
-    Written::BadAddress
-}
+ghost use Rattle.told.specs.Write.{frames, sixteenImage, newRpmImage};
 
 #[no_mangle]
 pub extern "C" fn crsf_write_link_statistics(

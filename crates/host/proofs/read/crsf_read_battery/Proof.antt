@@ -6,9 +6,9 @@ use native.Mathlib.Omega.{arith}
 use lib.IntN.{ℤ}
 use lib.ListN.{take}
 use Rattle.records.specs.Battery.{batteryValues, batteryAnswer}
-use Rattle.host.specs.declared.answer.Told.{Told}
-use Rattle.host.specs.Read.{given}
-use Rattle.host.proofs.Given.{fixed-given, fixed-refused, capacity-fits}
+use Rattle.told.specs.declared.answer.Told.{Told}
+use Rattle.values.specs.Read.{given}
+use Rattle.values.proofs.Given.{fixed-given, fixed-refused, capacity-fits}
 use borrow.Author.Needs.{needs}
 use Rattle.host.proofs.read.crsf_read_battery.Statement.{statement}
 use Rattle.host.proofs.read.crsf_read_battery.Tie as tie

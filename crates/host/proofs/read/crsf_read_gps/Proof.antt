@@ -5,9 +5,9 @@ use Prim.Native.Nat.{ℕ}
 use lib.IntN.{ℤ}
 use lib.ListN.{take}
 use Rattle.positions.specs.Gps.{gpsValues, gpsAnswer}
-use Rattle.host.specs.declared.answer.Told.{Told}
-use Rattle.host.specs.Read.{given}
-use Rattle.host.proofs.Given.{fixed-given, fixed-refused}
+use Rattle.told.specs.declared.answer.Told.{Told}
+use Rattle.values.specs.Read.{given}
+use Rattle.values.proofs.Given.{fixed-given, fixed-refused}
 use borrow.Author.Needs.{needs}
 use Rattle.host.proofs.read.crsf_read_gps.Statement.{statement}
 use Rattle.host.proofs.read.crsf_read_gps.Tie as tie

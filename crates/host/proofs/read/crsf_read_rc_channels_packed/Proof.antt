@@ -1,7 +1,7 @@
 -- `host::read::crsf_read_rc_channels_packed` meets its contract. Assumes nothing.
 use mathlib.Core.Path.{_≡_, ap, ap₂, _∙_}
 use Prim.Native.Nat.{ℕ}
-use Rattle.host.proofs.Given.{channels-given, channels-refused}
+use Rattle.values.proofs.Given.{channels-given, channels-refused}
 use borrow.Author.Needs.{needs}
 use Rattle.host.proofs.read.crsf_read_rc_channels_packed.Statement.{statement}
 use Rattle.host.proofs.read.crsf_read_rc_channels_packed.Tie as tie

@@ -5,9 +5,9 @@ use Prim.Native.Nat.{ℕ}
 use lib.IntN.{ℤ}
 use native.Mathlib.Omega.{arith}
 use lib.ListN.{length, take}
-use Rattle.host.specs.declared.answer.Told.{Told}
-use Rattle.host.specs.Read.{given, toldRun}
-use Rattle.host.proofs.Given.{rpm-given, rpm-refused, rpm-few}
+use Rattle.told.specs.declared.answer.Told.{Told}
+use Rattle.values.specs.Read.{given, toldRun}
+use Rattle.values.proofs.Given.{rpm-given, rpm-refused, rpm-few}
 use borrow.Author.Needs.{needs}
 use Rattle.host.proofs.read.crsf_read_rpm.Statement.{statement}
 use Rattle.host.proofs.read.crsf_read_rpm.Tie as tie

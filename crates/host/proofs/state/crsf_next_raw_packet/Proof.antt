@@ -1,7 +1,7 @@
 -- `host::state::crsf_next_raw_packet` meets its contract. Assumes nothing.
 use mathlib.Core.Path.{_∙_, ap}
-use Rattle.host.specs.Answer.{packed}
-use Rattle.host.proofs.Fits.{call-fits}
+use Rattle.told.specs.Answer.{packed}
+use Rattle.told.proofs.Fits.{call-fits}
 use borrow.Author.Needs.{needs}
 use Rattle.host.proofs.state.crsf_next_raw_packet.Statement.{statement}
 use Rattle.host.proofs.state.crsf_next_raw_packet.Tie as tie

@@ -1,5 +1,5 @@
 -- `host::state::crsf_reset` meets its contract. Assumes nothing.
-use Rattle.host.proofs.Saves.{reset-fits, told-fits, told-on}
+use Rattle.told.proofs.Saves.{reset-fits, told-fits, told-on}
 use borrow.Author.Needs.{needs}
 use Rattle.host.proofs.state.crsf_reset.Statement.{statement}
 use Rattle.host.proofs.state.crsf_reset.Tie as tie

@@ -1,5 +1,5 @@
 -- `host::state::crsf_restore` meets its contract. Assumes nothing.
-use Rattle.host.proofs.Saves.{restore-fits, told-fits, told-on}
+use Rattle.told.proofs.Saves.{restore-fits, told-fits, told-on}
 use borrow.Author.Needs.{needs}
 use Rattle.host.proofs.state.crsf_restore.Statement.{statement}
 use Rattle.host.proofs.state.crsf_restore.Tie as tie

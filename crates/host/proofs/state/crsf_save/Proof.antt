@@ -1,5 +1,5 @@
 -- `host::state::crsf_save` meets its contract. Assumes nothing.
-use Rattle.host.proofs.Saves.{save-fits, told-fits, told-on}
+use Rattle.told.proofs.Saves.{save-fits, told-fits, told-on}
 use borrow.Author.Needs.{needs}
 use Rattle.host.proofs.state.crsf_save.Statement.{statement}
 use Rattle.host.proofs.state.crsf_save.Tie as tie

@@ -1,6 +1,6 @@
 -- `host::write::crsf_write_baro_altitude` meets its contract. Assumes nothing.
 use Rattle.frames.proofs.Fits.{baro-altitude-small}
-use Rattle.host.proofs.Writes.{frame-fits, frame-told}
+use Rattle.told.proofs.Writes.{frame-fits, frame-told}
 use mir.Syntax.{w8}
 use mir.ValLaws.{toZ-ofZ}
 use borrow.Author.Needs.{needs}

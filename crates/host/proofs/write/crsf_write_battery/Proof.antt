@@ -1,7 +1,7 @@
 -- `host::write::crsf_write_battery` meets its contract. Assumes nothing.
 use Rattle.records.specs.declared.battery.Battery.{Battery}
 use Rattle.frames.proofs.Fits.{battery-small}
-use Rattle.host.proofs.Writes.{frame-fits, frame-told}
+use Rattle.told.proofs.Writes.{frame-fits, frame-told}
 use mir.Syntax.{w16}
 use mir.Val.{toZ, ofZ}
 use mir.ValLaws.{toZ-ofZ}

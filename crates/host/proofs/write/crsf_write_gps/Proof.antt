@@ -1,6 +1,6 @@
 -- `host::write::crsf_write_gps` meets its contract. Assumes nothing.
 use Rattle.frames.proofs.Fits.{gps-small}
-use Rattle.host.proofs.Writes.{frame-fits, frame-told}
+use Rattle.told.proofs.Writes.{frame-fits, frame-told}
 use mir.Syntax.{w32}
 use mir.ValLaws.{toZ-ofZ}
 use borrow.Author.Needs.{needs}

@@ -1,6 +1,6 @@
 -- `host::write::crsf_write_link_statistics` meets its contract. Assumes nothing.
 use Rattle.frames.proofs.Fits.{link-statistics-small}
-use Rattle.host.proofs.Writes.{frame-fits, frame-told}
+use Rattle.told.proofs.Writes.{frame-fits, frame-told}
 use mir.Syntax.{w8}
 use mir.ValLaws.{toZ-ofZ}
 use borrow.Author.Needs.{needs}

@@ -5,8 +5,8 @@ use Rattle.layout.specs.Writing.{Image}
 use Rattle.layout.specs.declared.Written.{Written}
 use Rattle.channels.specs.Channels.{channelsImage}
 use Rattle.frames.proofs.Fits.{channels-small}
-use Rattle.host.specs.Write.{WrittenFits, frames}
-use Rattle.host.proofs.Writes.{frame-fits, frame-told, channels-index, no-record, no-record-fits, is-sixteen, not-sixteen}
+use Rattle.told.specs.Write.{WrittenFits, frames}
+use Rattle.told.proofs.Writes.{frame-fits, frame-told, channels-index, no-record, no-record-fits, is-sixteen, not-sixteen}
 use borrow.Author.Needs.{needs}
 use Rattle.host.proofs.write.crsf_write_rc_channels_packed.Statement.{statement}
 use Rattle.host.proofs.write.crsf_write_rc_channels_packed.Tie as tie

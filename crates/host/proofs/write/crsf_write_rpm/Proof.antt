@@ -4,8 +4,8 @@ use mathlib.Core.List.{List}
 use Rattle.layout.specs.Writing.{Image}
 use Rattle.layout.specs.declared.Written.{Written}
 use Rattle.frames.proofs.Fits.{rpm-small}
-use Rattle.host.specs.Write.{WrittenFits, frames}
-use Rattle.host.proofs.Writes.{frame-fits, frame-told, rpm-index, no-record, no-record-fits, new-record, new-refused}
+use Rattle.told.specs.Write.{WrittenFits, frames}
+use Rattle.told.proofs.Writes.{frame-fits, frame-told, rpm-index, no-record, no-record-fits, new-record, new-refused}
 use borrow.Author.Needs.{needs}
 use Rattle.host.proofs.write.crsf_write_rpm.Statement.{statement}
 use Rattle.host.proofs.write.crsf_write_rpm.Tie as tie

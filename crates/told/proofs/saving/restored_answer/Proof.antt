@@ -1,0 +1,36 @@
+-- `told::saving::restored_answer` meets its contract. Assumes nothing.
+use mathlib.Core.Path.{sym, ap, subst, _∙_}
+use Prim.Native.Nat.{ℕ, _<_}
+use Rattle.saved.specs.declared.form.Restored.{Restored}
+use Rattle.saved.specs.Save.{toldByRestore}
+use Rattle.told.specs.Answer.{packed}
+use Rattle.told.specs.State.{toldState}
+use borrow.Author.Needs.{needs}
+use Rattle.told.proofs.saving.restored_answer.Statement.{statement}
+use Rattle.told.proofs.saving.restored_answer.Tie as tie
+
+abbrev told : Restored → ℕ
+told s = packed (toldState (toldByRestore s))
+
+enum-known-restored : tie.Need-enum-known-restored
+enum-known-restored c = search needs
+
+count-requires : tie.Need-count-requires
+count-requires c κs = subst (λ (s : Restored). toldByRestore s .count < 256) (c .before .restored .given .1) (c .before .before .before .pre)
+
+enum-told : tie.Need-enum-told
+enum-told c = search needs
+
+refuse-requires : tie.Need-refuse-requires
+refuse-requires c κs = search needs
+
+returns : tie.Need-returns
+returns c = c .count .ensures ∙ sym (ap told (c .before .before .restored .given .1))
+
+returns-2 : tie.Need-returns-2
+returns-2 c = c .refuse .ensures ∙ sym (ap told (c .before .enum-told .given .1))
+
+pub restored-answer-spec : {M : Type 1} → statement M
+restored-answer-spec =
+    tie.close
+    (tie.spec enum-known-restored count-requires enum-told refuse-requires returns returns-2)

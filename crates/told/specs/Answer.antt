@@ -1,0 +1,32 @@
+-- What every entry answers: eight bytes, which C declares as a struct of eight and a register carries as one number, lowest byte first.
+-- Assumes nothing.
+use Prim.Native.Nat.{ℕ, _+_, _*_}
+use mathlib.Core.List.{List, [], _∷_}
+use Rattle.told.specs.declared.answer.Told.{Told}
+
+-- in the struct's order
+abbrev pub bytesOf : Told → List ℕ
+bytesOf t = t .number ∷ t .taken ∷ t .in_state ∷ t .at ∷ t .len ∷ t .first ∷ t .second ∷ 0 ∷ []
+
+unfoldable pub lowestFirst : List ℕ → ℕ
+lowestFirst [] = 0
+lowestFirst (b ∷ bs) = b + 256 * lowestFirst bs
+
+abbrev pub packed : Told → ℕ
+packed t = lowestFirst (bytesOf t)
+
+-- a number, what was taken, and what the number carries
+abbrev pub toldNumber : ℕ → ℕ → ℕ → ℕ → Told
+toldNumber n t a b = record { number = n; taken = t; in_state = 0; at = 0; len = 0; first = a; second = b }
+
+-- what was taken, and where a frame stands, or how many bytes were written
+abbrev pub toldPlace : ℕ → ℕ → ℕ → ℕ → Told
+toldPlace t s p l = record { number = 0; taken = t; in_state = s; at = p; len = l; first = 0; second = 0 }
+
+-- only a count: of bytes that were written or are held, or of numbers that were read
+abbrev pub toldCount : ℕ → Told
+toldCount n = toldPlace 0 0 0 n
+
+-- only a refusal
+abbrev pub toldRefusal : ℕ → Told
+toldRefusal k = toldNumber k 0 0 0

@@ -1,0 +1,5 @@
+pub mod Answer
+pub mod Call
+pub mod State
+pub mod Write
+pub mod Seen

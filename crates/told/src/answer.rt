@@ -1,0 +1,96 @@
+// The eight bytes.
+ghost use mathlib.Core.Path.{_≡_};
+ghost use Prim.Native.Nat.{_+_, _*_, _^_, _<_};
+ghost use Rattle.told.specs.Answer.{packed, toldNumber, toldPlace, toldCount, toldRefusal};
+
+// What every entry answers. The eighth byte is 0. A field that an answer does not speak of is 0.
+pub struct Told {
+    // 0, or document 01's number of a refusal; 255 where a call asks for more
+    pub number: u8,
+    // how many bytes of the input were taken
+    pub taken: u8,
+    // 1 where a frame stands in the state, 0 where it stands in the input
+    pub in_state: u8,
+    // where a frame begins there
+    pub at: u8,
+    // how many bytes a frame has, or were written, or are held
+    pub len: u8,
+    // what a refusal carries
+    pub first: u8,
+    pub second: u8,
+}
+
+fn below(low: u8, rest: u64) -> u64
+    requires { ⌜ rest < 2 ^ 56 ⌝ }
+    ensures { λ r. ⌜ r ≡ low + 256 * rest ⌝ }
+{
+    low as u64 + 256 * rest
+}
+
+// The eight bytes as one number, lowest first.
+pub fn pack(t: Told) -> u64
+    ensures { λ r. ⌜ r ≡ packed t ⌝ }
+{
+    below(
+        t.number,
+        below(
+            t.taken,
+            below(
+                t.in_state,
+                below(t.at, below(t.len, below(t.first, below(t.second, 0)))),
+            ),
+        ),
+    )
+}
+
+pub fn narrow(n: usize) -> u8
+    requires { ⌜ n < 256 ⌝ }
+    ensures { λ r. ⌜ r ≡ n ⌝ }
+{
+    n as u8
+}
+
+// A number, and what it carries.
+pub(crate) fn said(number: u8, taken: u8, first: u8, second: u8) -> Told
+    ensures { λ r. ⌜ r ≡ toldNumber number taken first second ⌝ }
+{
+    Told {
+        number,
+        taken,
+        in_state: 0,
+        at: 0,
+        len: 0,
+        first,
+        second,
+    }
+}
+
+// A frame's place, or a count of bytes.
+pub fn placed(taken: u8, in_state: u8, at: u8, len: u8) -> Told
+    ensures { λ r. ⌜ r ≡ toldPlace taken in_state at len ⌝ }
+{
+    Told {
+        number: 0,
+        taken,
+        in_state,
+        at,
+        len,
+        first: 0,
+        second: 0,
+    }
+}
+
+// Only a count.
+pub fn count(n: usize) -> u64
+    requires { ⌜ n < 256 ⌝ }
+    ensures { λ r. ⌜ r ≡ packed (toldCount n) ⌝ }
+{
+    pack(placed(0, 0, 0, narrow(n)))
+}
+
+// Only a refusal.
+pub fn refuse(number: u8) -> u64
+    ensures { λ r. ⌜ r ≡ packed (toldRefusal number) ⌝ }
+{
+    pack(said(number, 0, 0, 0))
+}

@@ -1,0 +1,116 @@
+-- A loop that copies the first numbers of a list over those of another, one a turn, and what is given then.
+-- Assumes nothing.
+use mathlib.Core.Path.{_≡_, refl, sym, ap, _∙_}
+use mathlib.Core.List.{List, [], _∷_, _++_}
+use Prim.Native.Nat.{ℕ, suc, _+_, _^_, _≤_, _<_}
+use native.Mathlib.Numerals.{add-one}
+use native.Mathlib.Omega.{arith}
+use borrow.Author.Tests.{le-leb, lt-leb, leb-true}
+use lib.Dec.{leb, lit≤, lit<}
+use lib.IntN.{ℤ, pos}
+use lib.Signed.{mag}
+use lib.ListN.{length, getD, take, drop, set}
+use lib.Seq.{drop-cons, set-at, append-snoc, take-suc, length-take-le}
+use Rattle.base.specs.Bytes.{Bytes}
+use Rattle.base.specs.Parts.{part}
+use Rattle.base.proofs.Parts.{length-part, bytes-part}
+use Rattle.base.proofs.Tests.{by-test}
+use Rattle.numbers.specs.BigEndian.{beOf}
+use Rattle.numbers.proofs.BigEndian.{beOf-lt}
+use Rattle.fields.specs.Answer.{Answer}
+use Rattle.records.specs.Battery.{batteryValues, batteryRead}
+use Rattle.records.specs.declared.battery.Battery.{Battery}
+use Rattle.layout.specs.declared.ReadAnswer.{ReadAnswer}
+use Rattle.layout.specs.declared.ReadAnswer.the-variants.{Record, InvalidPayloadLength}
+use Rattle.channels.specs.Channels.{channelsRead}
+use Rattle.channels.specs.declared.ChannelsRead.{ChannelsRead}
+use Rattle.rpm.specs.Runs.{wholeIn, runRead}
+use Rattle.rpm.specs.Rpm.{rpmField, rpmRead}
+use Rattle.rpm.specs.declared.RpmRead.{RpmRead}
+use Rattle.told.specs.declared.answer.Told.{Told}
+use Rattle.told.specs.Answer.{packed, toldCount, toldRefusal}
+use Rattle.values.specs.Read.{given, gives, byAnswer, givesChannels, toldRun, givesRpm}
+
+module _ {A : Type 0} (s d : List A) where
+  pub copy-more : (z : A) (i : ℕ) → i < length s → i < length d → set (take i s ++ drop i d) i (getD s i z) ≡ take (i + 1) s ++ drop (i + 1) d
+  copy-more z i hs hd =
+      rw (drop-cons d i z hd, set-at (take i s) (getD d i z) (drop (suc i) d) (getD s i z) i (length-take-le i s (omega arith)), add-one, take-suc s i z hs)
+      (sym (append-snoc (take i s) (getD s i z) (drop (suc i) d)))
+
+  module _ (told : Told) (n : ℕ) (size : length s ≡ n) where
+    pub given-all : n ≤ length d → (packed told, s ++ drop n d) ≡ given told s d
+    unfolding given
+    given-all room = simp (size, le-leb _ _ room)
+
+    pub given-none : length d < n → (packed (toldRefusal 5), d) ≡ given told s d
+    unfolding given
+    given-none short = simp (size, lt-leb _ _ short)
+
+-- ---- Records that stand beside their answer
+
+module _ {m : ChannelsRead} (payload out : List ℕ) (read : m ≡ channelsRead payload) where
+  by-channels : {a : ReadAnswer} → m .answer ≡ a → byAnswer a (given (toldCount 16) (m .channels .0) out) out ≡ givesChannels (channelsRead payload) out
+  unfolding givesChannels
+  by-channels e =
+      ap (λ (x : ReadAnswer). byAnswer x (given (toldCount 16) (m .channels .0) out) out) (sym e) ∙ ap (λ (x : ChannelsRead). givesChannels x out) read
+
+  pub channels-given : m .answer ≡ Record → given (toldCount 16) (m .channels .0) out ≡ givesChannels (channelsRead payload) out
+  channels-given = by-channels
+
+  pub channels-refused : m .answer ≡ InvalidPayloadLength → (packed (toldRefusal 4), out) ≡ givesChannels (channelsRead payload) out
+  channels-refused = by-channels
+
+abbrev runOf : RpmRead → List ℤ → ℕ × List ℤ
+runOf m out = given (toldRun (m .rpm .count) (m .rpm .«rpm_source_id»)) (take (m .rpm .count) (m .rpm .«rpm_values»)) out
+
+module _ {m : RpmRead} (payload : List ℕ) (out : List ℤ) (read : m ≡ rpmRead payload) where
+  by-rpm : {a : ReadAnswer} → m .answer ≡ a → byAnswer a (runOf m out) out ≡ givesRpm (rpmRead payload) out
+  unfolding givesRpm
+  by-rpm e = ap (λ (x : ReadAnswer). byAnswer x (runOf m out) out) (sym e) ∙ ap (λ (x : RpmRead). givesRpm x out) read
+
+  pub rpm-given : m .answer ≡ Record → runOf m out ≡ givesRpm (rpmRead payload) out
+  rpm-given = by-rpm
+
+  pub rpm-refused : m .answer ≡ InvalidPayloadLength → (packed (toldRefusal 4), out) ≡ givesRpm (rpmRead payload) out
+  rpm-refused = by-rpm
+
+-- a record that is read has at most 19 values
+few-read : (payload : List ℕ) → rpmRead payload .rpm .count ≤ 19
+unfolding rpmRead runRead
+few-read payload =
+    by-test (leb 3 (length payload))
+    (λ t. by-test (leb (wholeIn rpmField payload) 19) (λ u. simp (t, u) (leb-true _ 19 u)) (λ u. simp (t, u) (lit≤ tt)))
+    (λ t. simp t (lit≤ tt))
+
+pub rpm-few : {m : RpmRead} (payload : List ℕ) → m ≡ rpmRead payload → m .rpm .count ≤ 19
+rpm-few payload e = rw e (few-read payload)
+
+-- ---- Records of fixed layouts
+
+module _ {read : Answer} (out : List ℤ) where
+  pub fixed-given : (vs : List ℤ) (n : ℕ) → length vs ≡ n → read ≡ (0, vs) → given (toldCount n) vs out ≡ gives read out
+  unfolding gives
+  fixed-given vs n size e = rw (e, size)
+
+  pub fixed-refused : read ≡ (4, []) → (packed (toldRefusal 4), out) ≡ gives read out
+  unfolding gives
+  fixed-refused e = rw e
+
+-- the capacity that a battery record reads as has 24 bits
+capacity-bound : (payload : List ℕ) → Bytes payload → 7 ≤ length payload → beOf (part payload 4 3) < 2 ^ 24
+capacity-bound payload b h =
+    rw (length-part payload 4 3 (omega arith)) at (beOf-lt (part payload 4 3) (bytes-part payload 4 3 b))
+
+third-fits : (payload : List ℕ) → Bytes payload → mag (getD (batteryRead payload .1) 2 (pos 0)) < 2 ^ 24
+unfolding batteryRead
+third-fits payload b =
+    by-test (leb 9 (length payload))
+    (λ t. simp t (capacity-bound payload b (omega (arith, leb-true 9 (length payload) t))))
+    (λ t.
+    by-test (leb 8 (length payload))
+    (λ u. simp (t, u) (capacity-bound payload b (omega (arith, leb-true 8 (length payload) u))))
+    (λ u. simp (t, u) (lit< tt)))
+
+pub capacity-fits : (payload : List ℕ) (x : Battery) → Bytes payload → batteryRead payload ≡ (0, batteryValues x) → x .«capacity_used» < 2 ^ 24
+unfolding batteryValues
+capacity-fits payload x b e = rw (sym (ap (λ (a : Answer). mag (getD (a .1) 2 (pos 0))) e)) (third-fits payload b)
