@@ -1,5 +1,7 @@
 // Whole frames of records: address, length, type, payload, check byte. All or nothing, and nothing past the frame. The Rust's
 // `write_packet_to_buffer` is generic over the record; here each record has its own.
+// A record of known size is written in its place behind the head, once the address and the room are known to be good. RC channels and
+// RPM, whose own writers may refuse, are written to places of their own first.
 mod frame;
 
 use channels::RcChannelsPacked;
