@@ -1,4 +1,5 @@
--- What a record's own writer leaves in sixty places of a payload is the record's image again: the one fact that each frame writer needs.
+-- What a record's own writer leaves in sixty places of a payload is the record's image again: the one fact that the frame writers of
+-- records that may be refused need.
 -- Assumes nothing.
 use mathlib.Core.Path.{_≡_, refl, sym, ap, ap₂, _∙_}
 use mathlib.Core.List.{List}
