@@ -32,3 +32,10 @@ pub fn resumed(p: CrsfParser, form: &[u8]) -> Resumed
         restored,
     }
 }
+
+// A save of a parser that is lent, the same.
+pub fn kept(p: CrsfParser, out: &mut [u8]) -> Saved
+    ensures { λ r. ⌜ Saves p (now (out .entry)) r (now (out .exit)) ⌝ }
+{
+    save(&p, out)
+}
