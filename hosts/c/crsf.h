@@ -109,6 +109,15 @@ uint8_t crsf_header_of(uint8_t packet_type);
 /* The check byte of a type and its payload (CRC-8/DVB-S2). */
 uint8_t crsf_checksum(const uint8_t *bytes, size_t bytes_len);
 
+/* Decimetres as a barometric record carries them: below -10000 gives 0, above 327655 gives 0xFFFE. */
+uint16_t crsf_pack_altitude(int32_t decimetres);
+
+/* What a barometric record carries, in decimetres. */
+int32_t crsf_baro_decimetres(uint16_t packed);
+
+/* What a GPS record carries, in metres. */
+int32_t crsf_gps_metres(uint16_t raw);
+
 /* ---- Records ------------------------------------------------------------------------------------------------------------------------------- */
 
 enum {

@@ -273,6 +273,8 @@ static void queries(void)
     CHECK(addresses == 24 && crsf_is_address(0xC8) && crsf_is_address(0x97) && !crsf_is_address(0x98));
     CHECK(crsf_header_of(CRSF_TYPE_GPS) == CRSF_SHORT && crsf_header_of(0x29) == CRSF_EXTENDED && crsf_header_of(0xFF) == CRSF_UNLISTED);
     CHECK(crsf_checksum((const uint8_t *)"123456789", 9) == 0xBC && crsf_checksum(NULL, 0) == 0);
+    CHECK(crsf_pack_altitude(22767) == 0x7FFF && crsf_pack_altitude(22768) == 0x88E5 && crsf_pack_altitude(327656) == 0xFFFE);
+    CHECK(crsf_pack_altitude(-10001) == 0 && crsf_baro_decimetres(0xFFFF) == 327670 && crsf_gps_metres(0) == -1000);
 }
 
 int main(void)

@@ -46,6 +46,9 @@ use Rattle.host.proofs.read.crsf_read_rpm.Reads as read-rpm
 use Rattle.host.proofs.query.crsf_is_address.Reads as is-address
 use Rattle.host.proofs.query.crsf_header_of.Reads as header-of
 use Rattle.host.proofs.query.crsf_checksum.Reads as checksum
+use Rattle.host.proofs.query.crsf_pack_altitude.Reads as pack-altitude
+use Rattle.host.proofs.query.crsf_baro_decimetres.Reads as baro-decimetres
+use Rattle.host.proofs.query.crsf_gps_metres.Reads as gps-metres
 
 -- ---- The call of the stream
 
@@ -164,3 +167,12 @@ header-of-one κs a r r′ s s′ = same
 
 pub checksum-one : OneAnswer {Seen = ℕ} checksum.Post (λ κs r s. r)
 checksum-one κs a r r′ s s′ = same
+
+pub pack-altitude-one : OneAnswer {Seen = ℕ} pack-altitude.Post (λ κs r s. r)
+pack-altitude-one κs a r r′ s s′ = same
+
+pub baro-decimetres-one : OneAnswer {Seen = ℤ} baro-decimetres.Post (λ κs r s. r)
+baro-decimetres-one κs a r r′ s s′ = same
+
+pub gps-metres-one : OneAnswer {Seen = ℤ} gps-metres.Post (λ κs r s. r)
+gps-metres-one κs a r r′ s s′ = same
