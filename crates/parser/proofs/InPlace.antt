@@ -1,6 +1,6 @@
 -- One walk for every function of the form
 --     fn f(p: &mut P, input: &[u8]) -> R { let out = g(*p, input); *p = out.parser; out.told }
--- where g takes the struct P by value and returns a struct of the new P and an R. It holds for any such structs of plain data, any callee g, and any promises: φ is what g promises of its result, and ψ what f promises.
+-- where g takes the struct P by value and returns a struct of the new P and an R. It holds for any such structs of plain data, any R that owns only facts (`Told.antt`: a struct or an enum), any callee g, and any promises: φ is what g promises of its result, and ψ what f promises.
 --     Pair             the struct that g returns: its two fields
 --     ended, clauses   f's signature, and its contract with the promise ψ.        gended, gclauses     g's.        body     f's MIR
 --     in-place         f meets its contract, if g meets its own and φ gives ψ
@@ -44,28 +44,30 @@ use denote.Triple.Spec.{Meets, tripleOf}
 use denote.Triple.Walked.{says, Stays, stay-ref, stay-none-slice, walkOf, goes-ref, goes-none-slice, ends-at, walked}
 use denote.Exit.{yes}
 use Rattle.parser.proofs.Walk.{PlainStruct, rowOf, mirOf, valOf, Stands, val-is, stands, typed, owns-plain, opens-plain, closes-plain, returned, proved}
+use Rattle.parser.proofs.Told as T
+use Rattle.parser.proofs.Told.{Plain, owns-told}
 
 -- S has two fields, a P and an R
-pub record Pair (S P R : PlainStruct) : Type 2 where
+pub record Pair (S P : PlainStruct) (R : Plain) : Type 2 where
   pub name : Sym
   pub parser : S .type .D → P .type .D
-  pub told : S .type .D → R .type .D
-  pub mir-is : mirOf S ≡ tyStruct name (tcons (mirOf P) (tcons (mirOf R) tnil))
-  pub val-is : (r : S .type .D) → valOf S r ≡ vstruct (vcons (valOf P (parser r)) (vcons (valOf R (told r)) vnil))
+  pub told : S .type .D → R .row .Denot
+  pub mir-is : mirOf S ≡ tyStruct name (tcons (mirOf P) (tcons (T.mirOf R) tnil))
+  pub val-is : (r : S .type .D) → valOf S r ≡ vstruct (vcons (valOf P (parser r)) (vcons (R .val (told r)) vnil))
   pub parser-stands : (r : S .type .D) → Stands S r → Stands P (parser r)
-  pub told-stands : (r : S .type .D) → Stands S r → Stands R (told r)
+  pub told-stands : (r : S .type .D) → Stands S r → T.Stands R (told r)
 
-module _ (S P R : PlainStruct) (two : Pair S P R) where
+module _ (S P : PlainStruct) (R : Plain) (two : Pair S P R) where
   -- the MIR type of S, written out
   abbrev τ : Ty
-  τ = tyStruct (two .name) (tcons (mirOf P) (tcons (mirOf R) tnil))
+  τ = tyStruct (two .name) (tcons (mirOf P) (tcons (T.mirOf R) tnil))
 
   abbrev pub body : Name → Fn
   body g = record {
     lifetimes = 2;
     outlives = [];
     params = 2;
-    locals = local (mirOf R) valueLocal ∷ local (tyRef (named 0) mut (pointee (rowOf P .written))) valueLocal ∷ local (sliceTy (tyRef (named 1) imm (tyInt w8))) valueLocal ∷ local τ valueLocal ∷ local (mirOf P) valueLocal ∷ [];
+    locals = local (T.mirOf R) valueLocal ∷ local (tyRef (named 0) mut (pointee (rowOf P .written))) valueLocal ∷ local (sliceTy (tyRef (named 1) imm (tyInt w8))) valueLocal ∷ local τ valueLocal ∷ local (mirOf P) valueLocal ∷ [];
     body = seq (assign (place 4 []) (rvOpd (copy (place 1 (deref (mirOf P) ∷ [])))))
         (seq (call g (copy (place 4 []) ∷ copy (place 2 []) ∷ []) (place 3 []))
         (seq (assign (place 1 (deref (mirOf P) ∷ [])) (rvOpd (copy (place 3 (field 0 ∷ [])))))
@@ -78,7 +80,7 @@ module _ (S P R : PlainStruct) (two : Pair S P R) where
       lifetimes = 2;
       outlives = [];
       params = RefMutOf (0 ∷ []) tt (plain (λ _. rowOf P)) (λ _. tt) ∷ SliceRefOf (1 ∷ []) tt (plain (λ _. u8)) (λ _. tt) ∷ [];
-      result = plain (λ _. rowOf R);
+      result = plain (λ _. R .row);
     };
     kept = (yes, (yes, tt));
   }
@@ -93,14 +95,14 @@ module _ (S P R : PlainStruct) (two : Pair S P R) where
   stayed = (stay-ref (0 ∷ []) tt (plain (λ _. rowOf P)), (stay-none-slice (1 ∷ []) tt (plain (λ _. u8)) yes, tt))
 
   -- what g promises of the struct passed, the input and the result; and what f promises of the struct and the input at entry, the struct at exit, and the result
-  module _ (φ : P .type .D → List ℕ → S .type .D → Type 0) (ψ : P .type .D → List ℕ → P .type .D → R .type .D → Type 0) {M : Type 1} (𝓤 : URA M) where
+  module _ (φ : P .type .D → List ℕ → S .type .D → Type 0) (ψ : P .type .D → List ℕ → P .type .D → R .row .Denot → Type 0) {M : Type 1} (𝓤 : URA M) where
     abbrev pub clauses : Clauses 𝓤 ended
     clauses κs a = record { ghost = Unit {0}; requires = λ _. emp 𝓤; ensures = λ _ r e. fact 𝓤 (ψ (now (a .0)) (now (a .1 .0)) (now (e .0)) r) }
 
     abbrev pub gclauses : Clauses 𝓤 gended
     gclauses κs a = record { ghost = Unit {0}; requires = λ _. emp 𝓤; ensures = λ _ r e. fact 𝓤 (φ (a .0) (now (a .1 .0)) r) }
 
-module _ (S P R : PlainStruct) (two : Pair S P R) (φ : P .type .D → List ℕ → S .type .D → Type 0) (ψ : P .type .D → List ℕ → P .type .D → R .type .D → Type 0) (link : (h : P .type .D) (s : List ℕ) (r : S .type .D) → φ h s r → ψ h s (two .parser r) (two .told r)) where
+module _ (S P : PlainStruct) (R : Plain) (two : Pair S P R) (φ : P .type .D → List ℕ → S .type .D → Type 0) (ψ : P .type .D → List ℕ → P .type .D → R .row .Denot → Type 0) (link : (h : P .type .D) (s : List ℕ) (r : S .type .D) → φ h s r → ψ h s (two .parser r) (two .told r)) where
   -- g's contract
   abbrev pub G : {M : Type 1} (𝓤 : URA M) (H : Heap 𝓤) (A : Atoms 𝓤) → Contract 𝓤
   G 𝓤 H A = tripleOf 𝓤 H A (gended S P R two .signature) (closing 𝓤 H A (gended S P R two) (gclauses S P R two φ ψ 𝓤))
@@ -122,15 +124,15 @@ module _ (S P R : PlainStruct) (two : Pair S P R) (φ : P .type .D → List ℕ 
     abbrev Post : Val → SProp 𝓤
     Post = walkOf 𝓤 H A (ended S P R two) (stayed S P R two) (clauses S P R two φ ψ 𝓤) .post (((κ, (κ′, tt)), (q, (q′, tt)), tt, x, at), tt)
 
-    exits : (r : S .type .D) → φ h (now s) r → Stands R (two .told r)
-        → ent 𝓤 (⋆ 𝓤 H A (‵ (fobs γ (rowOf P .coded .code (two .parser r))) ∷ ‵ (fbor κ (Body (mem (rowOf P)) b o γ)) ∷ ‵ (flft κ q) ∷ raw (alive 𝓤 H A (gended S P R two .signature) (κ′, tt) (q′, tt)) ∷ ‵ Input ∷ [])) (Post (valOf R (two .told r)))
+    exits : (r : S .type .D) → φ h (now s) r → T.Stands R (two .told r)
+        → ent 𝓤 (⋆ 𝓤 H A (‵ (fobs γ (rowOf P .coded .code (two .parser r))) ∷ ‵ (fbor κ (Body (mem (rowOf P)) b o γ)) ∷ ‵ (flft κ q) ∷ raw (alive 𝓤 H A (gended S P R two .signature) (κ′, tt) (q′, tt)) ∷ ‵ Input ∷ [])) (Post (R .val (two .told r)))
     exits r e is =
         qed W (‵ (fobs γ (rowOf P .coded .code (two .parser r))) ∷ ‵ (fbor κ (Body (mem (rowOf P)) b o γ)) ∷ ‵ (flft κ q) ∷ raw (alive 𝓤 H A (gended S P R two .signature) (κ′, tt) (q′, tt)) ∷ ‵ Input ∷ []) ∵
-        suffices ! _ (ends-at 𝓤 H A (ended S P R two) (stayed S P R two) (clauses S P R two φ ψ 𝓤) W (((κ, (κ′, tt)), (q, (q′, tt)), tt, x, at), tt) (valOf R (two .told r)) (two .told r) (two .parser r, (tt, tt)) (tt, (tt, tt))) $
+        suffices ! _ (ends-at 𝓤 H A (ended S P R two) (stayed S P R two) (clauses S P R two φ ψ 𝓤) W (((κ, (κ′, tt)), (q, (q′, tt)), tt, x, at), tt) (R .val (two .told r)) (two .told r) (two .parser r, (tt, tt)) (tt, (tt, tt))) $
         says ! (link h (now s) r e) $ move ! (2 ∷ 3 ∷ []) $ join ! $ frame ! $
         -- [obs; the borrow; Input]
         nothing ! $ move ! (3 ∷ 0 ∷ []) $ fjoin ! $ feqI ! (List Val) (vptr b o ∷ []) (vptr b o ∷ []) refl $ move ! (0 ∷ 2 ∷ 3 ∷ []) $ fjoin3 ! $ fjoin ! $
-        owns-plain ! R (two .told r) _ is $ move ! (1 ∷ 0 ∷ []) $ done !
+        owns-told ! R (two .told r) _ is $ move ! (1 ∷ 0 ∷ []) $ done !
 
     -- what g's triple binds outside, and that the caller has what it asks
     abbrev to-g : G 𝓤 H A .Ghost
@@ -161,7 +163,7 @@ module _ (S P R : PlainStruct) (two : Pair S P R) (φ : P .type .D → List ℕ 
           -- [the slice's token; the struct's cell; the open borrow; obs; auth; Input; true; _4; …; room for _3; …; _2; …; _1; …; room for _0; …]
           land ! (from ! (stop !)) (init ! 9 refl (out-typed r v is)) $ rewrite ! 9 (λ (u : Val). ‵ (fat fullShare (τ S P R two) l₃ 0 u)) (val-is S r v is ∙ two .val-is r) refl $
           assigns ! (of-opd ! (load ! (from ! (fld ! refl (stop !))) (look-in ! 9 (sub ! 0 refl (whole !))))) (from ! (hop ! (look ! 13 refl) (stop !))) (store-raw ! 1 refl (typed P 𝓤 H A W (two .parser r) _ (two .parser-stands r (stands S r v is)))) $
-          assigns ! (of-opd ! (load ! (from ! (fld ! refl (stop !))) (look-in ! 9 (sub ! 1 refl (whole !))))) (from ! (stop !)) (init ! 15 refl (typed R 𝓤 H A W (two .told r) _ (two .told-stands r (stands S r v is)))) $
+          assigns ! (of-opd ! (load ! (from ! (fld ! refl (stop !))) (look-in ! 9 (sub ! 1 refl (whole !))))) (from ! (stop !)) (init ! 15 refl (R .typed 𝓤 H A W (two .told r) _ (two .told-stands r (stands S r v is)))) $
           -- the borrow is closed at the new struct
           move ! (1 ∷ 2 ∷ 3 ∷ 4 ∷ []) $ closes-plain ! tt P (two .parser r) _ b o (two .parser-stands r (stands S r v is)) $
           -- [obs; the borrow; the struct's token; the slice's token; Input; true; _4; …; _3; …; _2; …; _1; …; _0; …]

@@ -3,6 +3,7 @@ pub mod Frames
 pub mod Histories
 pub mod Unique
 pub mod Walk
+pub mod Told
 pub mod InPlace
 pub mod Structs
 pub mod Lending

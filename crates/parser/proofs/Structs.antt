@@ -8,6 +8,7 @@ use Rattle.stream.proofs.step.Answered as R
 use Rattle.stream.proofs.step.Answered.Laws as R′
 use Rattle.parser.proofs.Stepped as S
 use Rattle.parser.proofs.Stepped.Laws as S′
+use Rattle.parser.proofs.Told.{Plain, of-struct}
 use Rattle.parser.proofs.InPlace.{Pair}
 use Rattle.parser.proofs.Walk.{PlainStruct}
 
@@ -17,11 +18,15 @@ Parser = record { type = P.the-type; laws = P′.the-laws; plain = P′.the-plai
 abbrev pub Told : PlainStruct
 Told = record { type = R.the-type; laws = R′.the-laws; plain = R′.the-plain; copy = R′.the-copy }
 
+-- what a call says, as the walk in place takes it
+abbrev pub Says : Plain
+Says = of-struct Told
+
 abbrev pub After : PlainStruct
 After = record { type = S.the-type; laws = S′.the-laws; plain = S′.the-plain; copy = S′.the-copy }
 
 -- what a call by value returns is a parser and what the call says
-abbrev pub steps : Pair After Parser Told
+abbrev pub steps : Pair After Parser Says
 steps = record {
   name = S.the-type .name;
   parser = λ r. r .parser;

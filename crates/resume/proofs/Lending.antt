@@ -33,7 +33,7 @@ use Rattle.parser.proofs.Lending.{Slice, sv, Input, cell}
 use Rattle.saved.specs.declared.form.Restored.{Restored}
 use Rattle.saved.specs.declared.Resumed.{Resumed}
 use Rattle.resume.specs.Lent.{Resumes}
-use Rattle.resume.proofs.Told as T
+use Rattle.parser.proofs.Told as T
 use Rattle.resume.proofs.Structs.{ByRestore, After}
 use Rattle.resume.proofs.restore as restore
 use Rattle.resume.proofs.restore.Symbol.{name as #restore}

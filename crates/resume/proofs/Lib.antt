@@ -1,7 +1,5 @@
--- `Told`, `InPlace`: a walk for a lent struct and a result that may be an enum. `Structs`, `Lending`: what the walks here share.
+-- `Structs`, `Lending`: what the walks here share.
 -- `Laws`: the same bytes are held, and demand 3 goes on. `Unique`: each promise leaves one answer.
-pub mod Told
-pub mod InPlace
 pub mod Structs
 pub mod Lending
 pub mod Laws

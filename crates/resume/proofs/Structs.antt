@@ -10,8 +10,8 @@ use Rattle.saved.proofs.Resumed as S
 use Rattle.saved.proofs.Resumed.Laws as S′
 use Rattle.parser.proofs.Structs.{Parser}
 use Rattle.parser.proofs.Walk.{PlainStruct}
-use Rattle.resume.proofs.Told.{Plain, of-enum}
-use Rattle.resume.proofs.InPlace.{Pair}
+use Rattle.parser.proofs.Told.{Plain, of-enum}
+use Rattle.parser.proofs.InPlace.{Pair}
 
 abbrev pub BySave : Plain
 BySave = of-enum A.the-type A′.the-laws A′.the-plain tt

@@ -7,7 +7,7 @@ use Rattle.parser.specs.declared.CrsfParser.{CrsfParser}
 use Rattle.parser.proofs.Structs.{Parser}
 use Rattle.saved.specs.declared.Resumed.{Resumed}
 use Rattle.resume.specs.Lent.{Resumes}
-use Rattle.resume.proofs.InPlace.{G, in-place}
+use Rattle.parser.proofs.InPlace.{G, in-place}
 use Rattle.resume.proofs.Structs.{ByRestore, After, resumes}
 use Rattle.saved.proofs.restore.Symbol as by-value
 use Rattle.saved.proofs.restore.Symbol.{name as #by-value}

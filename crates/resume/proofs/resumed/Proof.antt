@@ -36,7 +36,7 @@ use Rattle.parser.proofs.Walk.{rowOf, valOf, Stands, typed, owns-plain, proved}
 use Rattle.parser.proofs.Lending.{Slice, sv, Input, params, values, Owned, twice}
 use Rattle.saved.specs.declared.Resumed.{Resumed}
 use Rattle.resume.specs.Lent.{Resumes}
-use Rattle.resume.proofs.Told as T
+use Rattle.parser.proofs.Told as T
 use Rattle.resume.proofs.Structs.{ByRestore, After}
 use Rattle.resume.proofs.Lending.{resumedTo, Restore, calls-restore, both-stand}
 use Rattle.resume.proofs.restore.Symbol as restore-def

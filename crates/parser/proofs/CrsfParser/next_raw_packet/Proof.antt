@@ -7,7 +7,7 @@ use Rattle.stream.specs.declared.step.Answered.{Answered}
 use Rattle.parser.specs.declared.CrsfParser.{CrsfParser}
 use Rattle.parser.specs.Parser.{stepped, Nexts}
 use Rattle.parser.proofs.InPlace.{G, in-place}
-use Rattle.parser.proofs.Structs.{Parser, Told, After, steps}
+use Rattle.parser.proofs.Structs.{Parser, Says, After, steps}
 use Rattle.parser.proofs.next_raw_packet.Symbol as by-value
 use Rattle.parser.proofs.next_raw_packet.Symbol.{name as #by-value}
 use Rattle.parser.proofs.next_raw_packet.Met as by-value-thm
@@ -21,6 +21,6 @@ InPlace p input q a = Nexts p input (stepped q a)
 pub next-raw-packet-spec : {M : Type 1} → stated.statement M
 unfolding code.routine
 next-raw-packet-spec 𝓤 H 𝓜 𝓖 𝓡 =
-    in-place After Parser Told steps Nexts InPlace (λ h s r e. e) 𝓤 H 𝓜 𝓖 𝓡 code.env #next-raw-packet #by-value (code.unfolded 𝓤 H 𝓜 𝓡)
-    (cited 𝓤 H (G After Parser Told steps Nexts InPlace (λ h s r e. e) 𝓤 H (𝓖 .A)) 𝓜 𝓡 code.env #by-value by-value.routine code.calls-parser·next-raw-packet
+    in-place After Parser Says steps Nexts InPlace (λ h s r e. e) 𝓤 H 𝓜 𝓖 𝓡 code.env #next-raw-packet #by-value (code.unfolded 𝓤 H 𝓜 𝓡)
+    (cited 𝓤 H (G After Parser Says steps Nexts InPlace (λ h s r e. e) 𝓤 H (𝓖 .A)) 𝓜 𝓡 code.env #by-value by-value.routine code.calls-parser·next-raw-packet
     (by-value-thm.met 𝓤 H 𝓜 𝓖 𝓡))
