@@ -7,11 +7,12 @@ use Prim.Native.Nat.{ℕ, zero, suc, _+_, _-_, _≤_, _<_}
 use native.Mathlib.Nat.{add-zero, zero-add, sub-zero, zero-sub, suc-sub-suc}
 use native.Mathlib.Numerals.{add-one}
 use native.Mathlib.Omega.{arith}
-use lib.Dec.{lit<}
+use borrow.Author.Tests.{le-leb, lt-leb}
+use lib.Dec.{leb, lit<}
 use lib.ListN.{length, getD, take, drop, set, length-append, length-take, length-drop, take-append-drop, List·getD-eq-default}
 use lib.Seq.{length-take-le, take-suc, getD-drop, getD-take, set-at, append-snoc, take-at, drop-at, drop-drop, take-nil, take-length, paste, paste-suc}
 use Rattle.base.specs.Bytes.{Bytes}
-use Rattle.base.specs.Parts.{part, pasted}
+use Rattle.base.specs.Parts.{part, pasted, fitsIn, placed, copied}
 use Rattle.base.proofs.Tests.{below}
 
 pub length-part : (s : List ℕ) (at w : ℕ) → at + w ≤ length s → length (part s at w) ≡ w
@@ -77,9 +78,15 @@ module _ (d : List ℕ) where
   pasted-front vs = rw zero-add
 
 -- one turn of a copy from place at on: the code's store, with the code's i + 1
-pub paste-more : (d : List ℕ) (at : ℕ) (s : List ℕ) (i : ℕ) → at + i < length d → i < length s
-    → set (paste d at s i) (at + i) (getD s i 0) ≡ paste d at s (i + 1)
-paste-more d at s i hd hs = rw add-one (paste-suc d at s i 0 hd hs)
+module _ {A : Type 0} where
+  pub paste-more : (d : List A) (at : ℕ) (s : List A) (i : ℕ) (z : A) → at + i < length d → i < length s
+      → set (paste d at s i) (at + i) (getD s i z) ≡ paste d at s (i + 1)
+  paste-more d at s i z hd hs = rw add-one (paste-suc d at s i z hd hs)
+
+  -- .. and from the front on
+  pub front-more : (d s : List A) (i : ℕ) (z : A) → i < length d → i < length s → set (paste d 0 s i) i (getD s i z) ≡ paste d 0 s (i + 1)
+  front-more d s i z hd hs =
+      ap (λ (k : ℕ). set (paste d 0 s i) k (getD s i z)) (sym (zero-add i)) ∙ paste-more d 0 s i z (omega arith) hs
 
 -- a copy of some first elements, as a part that is replaced
 pub paste-pasted : (d s : List ℕ) (at n : ℕ) → n ≤ length s → paste d at s n ≡ pasted d at (take n s)
@@ -94,6 +101,25 @@ paste-all d at s n e = rw (e, take-length)
 -- one byte stored
 pub set-pasted : (d : List ℕ) (k b : ℕ) → k < length d → set d k b ≡ pasted d k (b ∷ [])
 set-pasted d k b h = ap (λ (l : List ℕ). set l k b) (sym (pasted-nil d (suc k))) ∙ pasted-cons d k b [] h
+
+-- ---- all or nothing
+
+-- the test as code makes it, with no sum that could be too large
+pub fits-left : (size at n : ℕ) → at ≤ size → leb n (size - at) ≡ fitsIn size at n
+fits-left size at n h =
+    ⊎-elim
+    (λ (low : n < suc (size - at)). le-leb n (size - at) (omega arith) ∙ sym (le-leb (at + n) size (omega arith)))
+    (λ (high : suc (size - at) ≤ n). lt-leb n (size - at) (omega arith) ∙ sym (lt-leb (at + n) size (omega arith)))
+    (below n (suc (size - at)))
+
+pub placed-fits : (d : List ℕ) (at : ℕ) (vs : List ℕ) → at + length vs ≤ length d → placed d at vs ≡ pasted d at vs
+unfolding placed
+placed-fits d at vs h = simp (le-leb (at + length vs) (length d) h)
+
+module _ {A : Type 0} (d : List A) (at : ℕ) (s : List A) (n : ℕ) where
+  pub copied-fits : at + n ≤ length d → n ≤ length s → copied d at s n ≡ paste d at s n
+  unfolding copied
+  copied-fits hd hs = simp (le-leb n (length s) hs, le-leb (at + n) (length d) hd)
 
 -- what is left of a front part, as a part
 pub drop-take : (a t : ℕ) (l : List ℕ) → drop a (take t l) ≡ take (t - a) (drop a l)
