@@ -5,9 +5,8 @@ use mathlib.Core.List.{List, [], _∷_, _++_}
 use Prim.Native.Nat.{ℕ, _+_, _≤_, _<_}
 use native.Mathlib.Omega.{arith}
 use lib.ListN.{length, set, length-append}
-use lib.Seq.{paste}
-use Rattle.base.specs.Parts.{pasted}
-use Rattle.base.proofs.Parts.{pasted-nil, pasted-append, length-pasted, paste-all, set-pasted}
+use Rattle.base.specs.Parts.{pasted, copied}
+use Rattle.base.proofs.Parts.{pasted-nil, pasted-append, length-pasted, paste-all, set-pasted, copied-fits}
 use Rattle.lines.specs.Put.{Puts}
 
 pub puts-none : {d : List ℕ} {at : ℕ} → Puts d at [] d at
@@ -26,8 +25,9 @@ pub length-puts : {d e : List ℕ} {at a : ℕ} {xs : List ℕ} → at + length 
 length-puts {d} {at = at} {xs = xs} room p = ap length (p .written) ∙ length-pasted d at xs room
 
 -- a whole slice that is copied
-pub puts-copy : {d e : List ℕ} {at : ℕ} (s : List ℕ) → e ≡ paste d at s (length s) → Puts d at s e (at + length s)
-puts-copy {d} {at = at} s copied = record { next = refl; written = copied ∙ paste-all d at s (length s) refl }
+pub puts-copy : {d e : List ℕ} {at : ℕ} (s : List ℕ) → at + length s ≤ length d → e ≡ copied d at s (length s) → Puts d at s e (at + length s)
+puts-copy {d} {at = at} s room copies =
+    record { next = refl; written = copies ∙ copied-fits d at s (length s) room (omega arith) ∙ paste-all d at s (length s) refl }
 
 -- one more byte, stored behind a run
 pub stored : (d : List ℕ) (at : ℕ) (xs : List ℕ) (b : ℕ) {e : List ℕ} {k : ℕ} → e ≡ pasted d at xs → k ≡ at + length xs → k < length d

@@ -4,6 +4,7 @@ use mathlib.Core.List.{List, _++_}
 use Prim.Native.Nat.{ℕ, _+_, _≤_}
 use native.Mathlib.Omega.{arith}
 use lib.ListN.{length, take}
+use Rattle.base.proofs.Parts.{copied-fits}
 use Rattle.stream.specs.Places.{heldIn}
 use Rattle.stream.proofs.Held.{held-paste}
 use borrow.Author.Needs.{needs}
@@ -29,7 +30,7 @@ returns c =
     record {
       ordered = omega arith;
       inside = room .ensures .room;
-      held = ap (λ (l : List ℕ). heldIn l (room .result .start) (room .result .end + a .count)) (c .before .before .copy-in .ensures)
+      held = ap (λ (l : List ℕ). heldIn l (room .result .start) (room .result .end + a .count)) (c .before .before .copy-in .ensures ∙ copied-fits (room .last .0) (room .result .end) (a .input .now) (a .count) (omega arith) (omega arith))
           ∙ held-paste (room .last .0) (room .result .start) (room .result .end) (room .ensures .ordered) (a .input .now) (a .count) (omega arith) (omega arith)
           ∙ ap (λ (l : List ℕ). l ++ take (a .count) (a .input .now)) (room .ensures .kept);
     }
