@@ -1,4 +1,5 @@
 -- `listing::drain::list_one` meets its contract. Assumes nothing.
+use Rattle.lines.proofs.Puts.{puts-line}
 use Rattle.listing.proofs.Said.{turned}
 use borrow.Author.Needs.{needs}
 use Rattle.listing.proofs.drain.list_one.Statement.{statement}
@@ -21,7 +22,11 @@ same-length-2 c = search needs
 
 returns : tie.Need-returns
 returns c =
-    turned (c .before .before .before .before .before .before .before .before .step-in .ensures .moves (c .before .before .before .before .before .before .before .before .before .before .before .before .before .pre .0)) (c .before .before .before .put-line .ensures .0) (c .before .before .before .put-line .ensures .1) (c .is-stop .ensures)
+    let put = c .before .before .before in
+    let moved = put .before .before .before .before .before in
+    let start = moved .before .before .before .before .before in
+    turned (moved .step-in .ensures .moves (start .pre .0)) (puts-line (start .pre .1) (put .put-line .ensures .0)) (put .put-line .ensures .1)
+    (c .is-stop .ensures)
 
 pub list-one-spec : {M : Type 1} → statement M
 list-one-spec =
