@@ -73,13 +73,7 @@ fn put_frame_at(s: &[u8], p: usize, out: &mut [u8], at: usize) -> usize
     put_frame(out, at, byte_at(s, p), byte_behind(s, p, 2), payload)
 }
 
-fn put_fitting(
-    answer: Answer,
-    piece: &[u8],
-    places: &[u8],
-    out: &mut [u8],
-    at: usize,
-) -> usize
+fn put_fitting(answer: Answer, piece: &[u8], places: &[u8], out: &mut [u8], at: usize) -> usize
     requires { ⌜ at + longest ≤ length (now out) ⌝ }
     ensures { λ r. ⌜ (Puts (now (out .entry)) at (lineBy answer (now (piece .entry)) (now (places .entry))) (now (out .exit)) r) × (r ≤ at + longest) ⌝ }
 {
