@@ -34,15 +34,6 @@ abbrev pub total : (reading.Answer → ℕ) → List reading.Answer → ℕ
 total f [] = 0
 total f (a ∷ more) = f a + total f more
 
-abbrev pub asksIn : Answer → Bool
-asksIn Stop = true
-asksIn (InPiece n) = false
-asksIn (InHeld at n) = false
-asksIn (InvalidSync b) = false
-asksIn (InvalidPacketLength l) = false
-asksIn (InvalidCrc a b) = false
-asksIn BadState = false
-
 abbrev pub framesIn : Answer → ℕ
 framesIn Stop = 0
 framesIn (InPiece n) = 1

@@ -12,8 +12,6 @@ use Rattle.reading.specs.Reading.{First, stop, says}
 use Rattle.reading.specs.Call.{call}
 use Rattle.stream.specs.Places.{heldIn}
 use Rattle.stream.specs.Step.{isSpan}
-use Rattle.stream.specs.declared.step.Answer.{Answer}
-use Rattle.stream.specs.declared.step.Answer.the-variants.{Stop, InPiece, InHeld, InvalidSync, InvalidPacketLength, InvalidCrc, BadState}
 use Rattle.lines.specs.Lines.{line, heldLine}
 use Rattle.lines.specs.Put.{Puts}
 use Rattle.listing.specs.Listing.{Listing, listOf}
@@ -24,15 +22,6 @@ use Rattle.listing.specs.declared.drain.Status.{Status}
 use Rattle.listing.specs.declared.drain.Status.the-variants as status
 
 -- ---- one call of the stream, and its line
-
-abbrev pub isStop : Answer → Bool
-isStop Stop = true
-isStop (InPiece n) = false
-isStop (InHeld p n) = false
-isStop (InvalidSync b) = false
-isStop (InvalidPacketLength l) = false
-isStop (InvalidCrc a b) = false
-isStop BadState = false
 
 unfoldable pub asksFor : First → Bool
 asksFor stop = true

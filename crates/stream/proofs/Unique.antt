@@ -25,8 +25,18 @@ use Rattle.stream.specs.declared.step.Answer.the-variants.{Stop, InPiece
 use Rattle.stream.specs.declared.step.Answered.{Answered}
 use Rattle.stream.specs.declared.step.Moved.{Moved}
 use Rattle.stream.proofs.Held.{length-held}
+use Rattle.stream.proofs.step.asks_for_more.Reads as asks-for-more
+use Rattle.stream.proofs.step.is_span.Reads as is-span
 use Rattle.stream.proofs.step.step_in.Reads as step-in
 use Rattle.stream.proofs.lent.step_lent.Reads as step-lent
+
+-- ---- The two tests
+
+pub is-span-one : OneAnswer {Seen = Bool} is-span.Post (λ κs r s. r)
+is-span-one κs a r r′ s s′ = same
+
+pub asks-for-more-one : OneAnswer {Seen = Bool} asks-for-more.Post (λ κs r s. r)
+asks-for-more-one κs a r r′ s s′ = same
 
 -- ---- What is shown
 
