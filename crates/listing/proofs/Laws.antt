@@ -2,17 +2,16 @@
 -- asked for they are the lines of all of them.
 -- Assumes nothing.
 use mathlib.Core.Path.{_≡_, refl, sym, ap, ap₂, _∙_, subst}
-use mathlib.Core.Bool.{Bool, true, false, true≢false}
+use mathlib.Core.Bool.{true, true≢false}
 use mathlib.Core.List.{List, [], _∷_, _++_, append-assoc, append-nil, nil≢cons}
-use Prim.Native.Nat.{ℕ, _+_, _-_, _≤_, _<_}
+use Prim.Native.Nat.{ℕ, _-_, _≤_, _<_}
 use native.Mathlib.Omega.{arith}
 use lib.Dec.{ltb}
 use lib.ListN.{length, take, drop}
 use lib.Seq.{drop-drop, drop-length, take-at}
-use Rattle.base.specs.Parts.{pasted}
 use Rattle.base.proofs.Parts.{pasted-front}
 use Rattle.base.proofs.Tests.{by-test}
-use Rattle.reading.specs.Answer.{Answer, drops}
+use Rattle.reading.specs.Answer.{Answer}
 use Rattle.reading.specs.Reading.{First, stop, says, first, Reading, reading}
 use Rattle.reading.specs.Call.{Call, call}
 use Rattle.reading.specs.History.{answered, History, begin, offer, ask}
@@ -24,9 +23,8 @@ use Rattle.stream.specs.Places.{heldIn}
 use Rattle.stream.specs.Step.{isSpan}
 use Rattle.stream.proofs.Held.{length-held}
 use Rattle.stream.proofs.Spans.{span-bounds}
-use Rattle.lines.specs.Lines.{line, linesOf, heldLine}
-use Rattle.listing.specs.Listing.{Listing, after, full, asking, listFrom, listOf}
-use Rattle.lines.specs.Lines.{longest}
+use Rattle.lines.specs.Lines.{line, linesOf, heldLine, longest}
+use Rattle.listing.specs.Listing.{Listing, full, asking, listFrom, listOf}
 use Rattle.listing.specs.Drain.{Drains, Lists}
 use Rattle.listing.specs.Shown.{listed}
 use Rattle.listing.specs.declared.drain.Listed.{Listed}

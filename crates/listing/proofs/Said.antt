@@ -2,8 +2,8 @@
 -- Assumes nothing.
 use mathlib.Core.Path.{_≡_, refl, sym, ap, _∙_, subst}
 use mathlib.Core.Bool.{Bool, true, false}
-use mathlib.Core.List.{List, [], _∷_, _++_}
-use Prim.Native.Nat.{ℕ, _+_, _-_, _≤_, _<_}
+use mathlib.Core.List.{List, [], _++_}
+use Prim.Native.Nat.{ℕ, _+_, _-_, _≤_}
 use native.Mathlib.Nat.{add-zero}
 use native.Mathlib.Omega.{arith}
 use lib.Dec.{eqb, ltb}
@@ -22,8 +22,7 @@ use Rattle.stream.specs.declared.step.Answer.the-variants.{Stop, InPiece, InHel
 use Rattle.stream.specs.declared.step.Moved.{Moved}
 use Rattle.stream.specs.Places.{heldIn}
 use Rattle.stream.specs.Step.{Said, more, frame, refused, saidOf, meaningOf, asksForMore, Outcome, Moves}
-use Rattle.lines.specs.Lines.{syncWord, lengthWord, frameLine, byteLine, crcLine, line}
-use Rattle.lines.specs.Lines.{longest}
+use Rattle.lines.specs.Lines.{syncWord, lengthWord, frameLine, byteLine, crcLine, line, longest}
 use Rattle.lines.specs.Put.{Puts, lineBy}
 use Rattle.listing.specs.Drain.{asksFor, lineFirst, Turns}
 use Rattle.lines.proofs.Puts.{puts-as}

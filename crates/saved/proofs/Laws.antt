@@ -2,27 +2,27 @@
 -- it is the saved form of some bytes; and demand 3 goes on across a save and a restore.
 -- Assumes nothing.
 use mathlib.Core.Path.{_≡_, refl, sym, ap, ap₂, _∙_, subst}
-use mathlib.Core.Bool.{Bool, true, false, true≢false, _&&_, and-eq-true-iff}
-use mathlib.Core.List.{List, [], _∷_, _++_, append-assoc}
-use Prim.Native.Nat.{ℕ, zero, suc, _+_, _-_, _≤_, _<_}
+use mathlib.Core.Bool.{true, false}
+use mathlib.Core.List.{List, [], _∷_, _++_}
+use Prim.Native.Nat.{ℕ, suc, _+_, _-_, _<_}
 use native.Mathlib.Nat.{sub-zero}
 use native.Mathlib.Omega.{arith}
-use borrow.Author.Tests.{ltb-true, ltb-false, leb-true, lt-ltb, le-ltb, le-leb, lt-leb, eq-eqb}
+use borrow.Author.Tests.{ltb-true, ltb-false, lt-ltb, le-leb, lt-leb, eq-eqb}
 use lib.Dec.{leb, ltb}
-use lib.ListN.{length, getD, take, drop, length-drop}
+use lib.ListN.{length, getD, take, drop}
 use lib.Seq.{take-at, drop-drop}
 use Rattle.base.specs.Parts.{pasted}
 use Rattle.base.proofs.Parts.{pasted-front}
 use Rattle.base.proofs.Tests.{by-test}
 use Rattle.reading.specs.Answer.{Answer}
 use Rattle.reading.specs.Reading.{reading, _⊕_}
-use Rattle.reading.specs.History.{History, begin}
+use Rattle.reading.specs.History.{History}
 use Rattle.reading.proofs.History.{resumed}
 use Rattle.stream.specs.Places.{heldIn}
 use Rattle.stream.proofs.Held.{length-held}
 use Rattle.saved.specs.Form.{savedForm, isCount, isSavable, isForm, heldOf}
 use Rattle.saved.specs.Save.{Told, done, refused, saveOf, restoreOf}
-use Rattle.saved.proofs.Forms.{form-is, length-form, Savable, savable, Accepted, accepted}
+use Rattle.saved.proofs.Forms.{form-is, Savable, savable, Accepted, accepted}
 
 -- ---- forms
 
