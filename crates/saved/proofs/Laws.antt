@@ -45,26 +45,23 @@ module _ (m : ℕ) (held : List ℕ) (few : length held < m) (group : length hel
   pub held-again : heldOf (savedForm held) ≡ held
   held-again = ap heldOf (form-is held group)
 
--- a form that is accepted is the saved form of its held bytes, which are few
+-- a form that is accepted is the saved form of its held bytes, whose count takes one group
 module _ (m : ℕ) (form : List ℕ) (good : isForm m form ≡ true) where
-  by-form : (f : List ℕ) → Accepted m f → (length (heldOf f) < m) × ((length (heldOf f) < 128) × (savedForm (heldOf f) ≡ f))
+  by-form : (f : List ℕ) → Accepted m f → (length (heldOf f) < 128) × (savedForm (heldOf f) ≡ f)
   by-form [] a = absurd (let one = a .some in omega arith)
   by-form (n ∷ held) a =
       let size : length held ≡ n = omega (arith, a .exact) in
       let group : length held < 128 = omega (arith, a .group) in
-      (omega (arith, a .few), (group, form-is held group ∙ ap (λ (k : ℕ). k ∷ held) size))
+      (group, form-is held group ∙ ap (λ (k : ℕ). k ∷ held) size)
 
-  facts : (length (heldOf form) < m) × ((length (heldOf form) < 128) × (savedForm (heldOf form) ≡ form))
+  facts : (length (heldOf form) < 128) × (savedForm (heldOf form) ≡ form)
   facts = by-form form (accepted m form good)
 
-  pub held-few : length (heldOf form) < m
-  held-few = facts .0
-
   pub held-group : length (heldOf form) < 128
-  held-group = facts .1 .0
+  held-group = facts .0
 
   pub form-again : savedForm (heldOf form) ≡ form
-  form-again = facts .1 .1
+  form-again = facts .1
 
 -- of two accepted saved forms, equal held bytes mean equal forms
 pub same-form : (m : ℕ) (f g : List ℕ) → isForm m f ≡ true → isForm m g ≡ true → heldOf f ≡ heldOf g → f ≡ g
