@@ -14,17 +14,18 @@ fn value(name: &[u8], bytes: &[u8], expected: u8) {
     }
 }
 
-// A whole frame: its check byte covers all but the address, the length and itself.
+// A whole frame with no payload, as each of these is: its check byte covers the type.
 fn frame(bytes: &[u8]) {
-    let n = bytes.len();
-    if n < 4 {
-        io::write_all(STDOUT_FILENO, b"no frame\n");
+    if bytes.len() != 4 {
+        io::write_all(STDOUT_FILENO, b"no such frame\n");
         return;
     }
-    spelled(bytes);
-    let last = n - 1;
-    let body = &bytes[2..last];
-    match crc::checked(body, bytes[last]) {
+    spelled(bytes[0]);
+    spelled(bytes[1]);
+    spelled(bytes[2]);
+    spelled(bytes[3]);
+    let covered = &bytes[2..3];
+    match crc::checked(covered, bytes[3]) {
         crc::Check::Right => {
             io::write_all(STDOUT_FILENO, b"right\n");
         }
@@ -39,13 +40,9 @@ fn frame(bytes: &[u8]) {
     }
 }
 
-fn spelled(bytes: &[u8]) {
-    let mut i = 0;
-    while i < bytes.len() {
-        io::print_hex(STDOUT_FILENO, wide(bytes[i]), 2);
-        io::write_all(STDOUT_FILENO, b" ");
-        i += 1;
-    }
+fn spelled(b: u8) {
+    io::print_hex(STDOUT_FILENO, wide(b), 2);
+    io::write_all(STDOUT_FILENO, b" ");
 }
 
 fn told(calculated: u8, beside: &[u8], other: u8) {

@@ -12,7 +12,7 @@ use Rattle.reading.specs.Answer as reading
 use Rattle.reading.specs.Reading.{First, stop, says, reading}
 use Rattle.reading.specs.Call.{Call, call}
 use Rattle.reading.specs.History.{answered}
-use Rattle.stream.specs.Step.{Said, frame, refused, more as moreSaid, saidOf, meaningOf, Outcome}
+use Rattle.stream.specs.Step.{Said, frame, refused, more as moreSaid, saidOf, meaningOf, asksForMore, Outcome}
 use Rattle.stream.specs.declared.step.Answer.{Answer}
 use Rattle.stream.specs.declared.step.Answer.the-variants.{Stop, InPiece, InHeld, InvalidSync, InvalidPacketLength, InvalidCrc, BadState}
 use Rattle.parser.specs.declared.CrsfParser.{CrsfParser}
@@ -21,7 +21,7 @@ use Rattle.drain.specs.declared.Drained.{Drained}
 use Rattle.drain.specs.declared.End.{End}
 use Rattle.drain.specs.declared.End.the-variants.{AsksForMore, BudgetSpent, BadState as NoState}
 use Rattle.parser.specs.Parser.{heldBy, isState, Nexts}
-use Rattle.drain.specs.Drain.{framesOf, refusalsOf, asksIn, framesIn, refusalsIn, Tally, more, drainOf, tallyOf, Drains}
+use Rattle.drain.specs.Drain.{framesOf, refusalsOf, framesIn, refusalsIn, Tally, more, drainOf, tallyOf, Drains}
 use Rattle.parser.proofs.Held.{call-takes, moves-on, still-state}
 
 -- ---- What an answer of the code counts is what the reading's counts
@@ -42,7 +42,7 @@ refusalsBy (frame b c) = 0
 refusalsBy (refused n c) = 1
 
 module _ (piece places : List ℕ) where
-  meant : (a : Answer) → (asksIn a ≡ asksBy (meaningOf a piece places))
+  meant : (a : Answer) → (asksForMore a ≡ asksBy (meaningOf a piece places))
       × ((framesIn a ≡ framesBy (meaningOf a piece places)) × (refusalsIn a ≡ refusalsBy (meaningOf a piece places)))
   unfolding meaningOf
   meant Stop = (refl, (refl, refl))
@@ -73,11 +73,11 @@ record Counts (a : Answer) (f : First) : Type 0 where
   refusals : refusalsIn a ≡ refusalsOf answer
 
 module _ (b : Bool) (piece places : List ℕ) (a : Answer) where
-  asked-first : (f : First) → meaningOf a piece places ≡ saidOf b f → asksIn a ≡ true → f ≡ stop
+  asked-first : (f : First) → meaningOf a piece places ≡ saidOf b f → asksForMore a ≡ true → f ≡ stop
   asked-first stop e q = refl
   asked-first (says x) e q = absurd (true≢false (sym q ∙ meant piece places a .0 ∙ ap asksBy e ∙ said b x .0))
 
-  counts-first : (f : First) → meaningOf a piece places ≡ saidOf b f → asksIn a ≡ false → Counts a f
+  counts-first : (f : First) → meaningOf a piece places ≡ saidOf b f → asksForMore a ≡ false → Counts a f
   counts-first stop e q = absurd (true≢false (sym (meant piece places a .0 ∙ ap asksBy e ∙ asks-by b) ∙ q))
   counts-first (says x) e q =
       record {
@@ -207,7 +207,7 @@ module _ {p : CrsfParser} {input : List ℕ} {budget : ℕ} {parser : CrsfParser
     pub fits : taken + out .answered .taken ≤ length input
     fits = omega (arith, takes-it, call-takes 64 (heldBy parser) (drop taken input), length-drop taken input, g .inside)
 
-    pub asked : asksIn a ≡ true
+    pub asked : asksForMore a ≡ true
         → Drains p input budget (record { parser = out .parser; taken = taken + out .answered .taken; frames = frames; refusals = refusals; end = AsksForMore })
     asked q =
         let stops = asked-first _ (drop taken input) (out .parser .buffer) a (c .answer) meant-by q in
@@ -216,7 +216,7 @@ module _ {p : CrsfParser} {input : List ℕ} {budget : ℕ} {parser : CrsfParser
         ∙ ap (more taken frames refusals) (sym (drain-stop 64 (heldBy parser) (drop taken input) (left - 1) stops))
         ∙ before)
 
-    pub goes : {f r : ℕ} → asksIn a ≡ false → f ≡ framesIn a → r ≡ refusalsIn a
+    pub goes : {f r : ℕ} → asksForMore a ≡ false → f ≡ framesIn a → r ≡ refusalsIn a
         → Going p input budget (out .parser) (taken + out .answered .taken) (frames + f) (refusals + r) (left - 1)
     goes {f} {r} q u v =
         let k = counts-first _ (drop taken input) (out .parser .buffer) a (c .answer) meant-by q in

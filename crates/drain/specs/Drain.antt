@@ -2,7 +2,7 @@
 -- Assumes nothing.
 use Prim.Native.Nat.{ℕ, zero, suc, _+_}
 use mathlib.Core.Path.{_≡_}
-use mathlib.Core.Bool.{Bool, true, false}
+use mathlib.Core.Bool.{true, false}
 use mathlib.Core.List.{List, [], _∷_}
 use lib.ListN.{drop}
 use Rattle.reading.specs.Answer as reading
@@ -33,15 +33,6 @@ refusalsOf (reading.Frame c) = 0
 abbrev pub total : (reading.Answer → ℕ) → List reading.Answer → ℕ
 total f [] = 0
 total f (a ∷ more) = f a + total f more
-
-abbrev pub asksIn : Answer → Bool
-asksIn Stop = true
-asksIn (InPiece n) = false
-asksIn (InHeld at n) = false
-asksIn (InvalidSync b) = false
-asksIn (InvalidPacketLength l) = false
-asksIn (InvalidCrc a b) = false
-asksIn BadState = false
 
 abbrev pub framesIn : Answer → ℕ
 framesIn Stop = 0

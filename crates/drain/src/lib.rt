@@ -2,10 +2,11 @@
 use parser::CrsfParser;
 use parser::next_raw_packet;
 use stream::step::Answer;
+use stream::step::asks_for_more;
 ghost use mathlib.Core.Path.{_≡_};
 ghost use mathlib.Core.Bool.{true};
 ghost use Rattle.parser.specs.Parser.{isState};
-ghost use Rattle.drain.specs.Drain.{asksIn, framesIn, refusalsIn, Drains};
+ghost use Rattle.drain.specs.Drain.{framesIn, refusalsIn, Drains};
 
 // Why a drain came to its end.
 pub enum End {
@@ -24,20 +25,6 @@ pub struct Drained {
     pub frames: usize,
     pub refusals: usize,
     pub end: End,
-}
-
-fn asks(answer: Answer) -> bool
-    ensures { λ r. ⌜ r ≡ asksIn answer ⌝ }
-{
-    match answer {
-        Answer::Stop => true,
-        Answer::InPiece(_) => false,
-        Answer::InHeld { .. } => false,
-        Answer::InvalidSync(_) => false,
-        Answer::InvalidPacketLength(_) => false,
-        Answer::InvalidCrc { .. } => false,
-        Answer::BadState => false,
-    }
 }
 
 fn frames_in(answer: Answer) -> usize
@@ -89,7 +76,7 @@ fn drain_state(p: CrsfParser, input: &[u8], budget: usize) -> Drained
         let answered = out.answered;
         let answer = answered.answer;
         taken += answered.taken;
-        if asks(answer) {
+        if asks_for_more(answer) {
             return Drained {
                 parser,
                 taken,

@@ -1,13 +1,13 @@
 -- Each record's payload fits a frame.
 -- Assumes nothing.
 use mathlib.Core.Path.{_≡_, sym, subst, _∙_}
-use Prim.Native.Nat.{ℕ, _≤_, _<_}
+use Prim.Native.Nat.{_≤_, _<_}
 use mathlib.Core.Logic.{⊎-elim}
 use native.Mathlib.Omega.{arith}
 use lib.Dec.{eqb}
 use lib.ListN.{length}
 use Rattle.base.proofs.Tests.{by-test, below}
-use Rattle.layout.specs.Writing.{Image, bytes, refused}
+use Rattle.layout.specs.Writing.{Image, refused}
 use Rattle.layout.specs.declared.Written.the-variants.{InvalidPayloadLength}
 use Rattle.channels.specs.Channels.{firstAbove, bytesOf, channelsImage}
 use Rattle.channels.specs.declared.RcChannelsPacked.{RcChannelsPacked}

@@ -1,15 +1,15 @@
 -- What is written is a valid frame, and its reading is that frame.
 -- Assumes nothing.
-use mathlib.Core.Path.{_≡_, refl, sym, ap, subst, _∙_}
-use mathlib.Core.Bool.{Bool, true, false, true≢false}
+use mathlib.Core.Path.{_≡_, sym, ap, _∙_}
+use mathlib.Core.Bool.{true}
 use mathlib.Core.List.{List, [], _∷_, _++_, append-nil}
-use Prim.Native.Nat.{ℕ, suc, _≤_}
+use Prim.Native.Nat.{ℕ, _≤_}
 use native.Mathlib.Omega.{arith}
 use lib.ListN.{length}
 use Rattle.packets.specs.Listed.{listed}
 use Rattle.reading.specs.Answer.{Frame}
-use Rattle.reading.specs.Reading.{Reading, reading, _⊕_}
-use Rattle.reading.specs.Frame.{frame, Valid, AllValid}
+use Rattle.reading.specs.Reading.{reading, _⊕_}
+use Rattle.reading.specs.Frame.{frame, Valid}
 use Rattle.reading.proofs.Tests.{good-length}
 use Rattle.reading.proofs.Frame.{frame-valid, frames-read}
 

@@ -7,7 +7,6 @@ use Prim.Native.Nat.{ℕ, _≤_}
 use native.Mathlib.Omega.{arith}
 use lib.ListN.{length, take, drop}
 use lib.Seq.{take-at}
-use Rattle.base.specs.Parts.{pasted}
 use Rattle.base.proofs.Parts.{pasted-front, length-pasted}
 use Rattle.layout.specs.Writing.{Image, bytes, refused, writeOf}
 use Rattle.layout.specs.declared.Written.{Written}

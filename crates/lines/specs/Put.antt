@@ -4,10 +4,11 @@ use Prim.Native.Nat.{ℕ, _+_, _-_}
 use mathlib.Core.Path.{_≡_}
 use mathlib.Core.List.{List, []}
 use lib.ListN.{length, getD}
-use Rattle.base.specs.Parts.{pasted}
+use Rattle.base.specs.Choice.{if_then_else_}
+use Rattle.base.specs.Parts.{pasted, fitsIn}
 use Rattle.stream.specs.declared.step.Answer.{Answer}
 use Rattle.stream.specs.declared.step.Answer.the-variants.{Stop, InPiece, InHeld, InvalidSync, InvalidPacketLength, InvalidCrc, BadState}
-use Rattle.lines.specs.Lines.{syncWord, lengthWord, frameLine, byteLine, crcLine}
+use Rattle.lines.specs.Lines.{syncWord, lengthWord, frameLine, byteLine, crcLine, longest}
 
 pub record Puts (before : List ℕ) (at : ℕ) (bytes after : List ℕ) (r : ℕ) : Type 0 where
   pub next : r ≡ at + length bytes
@@ -22,3 +23,7 @@ lineBy (InvalidSync b) piece places = byteLine syncWord b
 lineBy (InvalidPacketLength l) piece places = byteLine lengthWord l
 lineBy (InvalidCrc a b) piece places = crcLine a b
 lineBy BadState piece places = []
+
+-- a line at a place with room for the longest: the place behind it, and the buffer; with no room the same place, and the buffer as it is
+unfoldable pub putLineOf : List ℕ → ℕ → List ℕ → ℕ × List ℕ
+putLineOf bytes at out = if fitsIn (length out) at longest then (at + length bytes, pasted out at bytes) else (at, out)

@@ -1,15 +1,16 @@
-// The line of each answer, at a place of a lent buffer with room for the longest, and the last line.
+// The line of each answer, at a place of a lent buffer, and the last line.
 use crate::put::digits;
 use crate::put::put_decimal;
 use crate::put::put_hex;
 use crate::put::put_word;
 use base::byte_at;
+use base::fits;
 use stream::step::Answer;
 ghost use mathlib.Core.Path.{_≡_};
 ghost use Prim.Native.Nat.{_+_, _-_, _≤_};
 ghost use lib.ListN.{length, getD};
 ghost use Rattle.lines.specs.Lines.{longest, frameLine, byteLine, crcLine, heldLineOf};
-ghost use Rattle.lines.specs.Put.{Puts, lineBy};
+ghost use Rattle.lines.specs.Put.{Puts, lineBy, putLineOf};
 
 fn put_frame(out: &mut [u8], at: usize, address: u8, kind: u8, payload: u8) -> usize
     requires { ⌜ at + longest ≤ length (now out) ⌝ }
@@ -72,8 +73,7 @@ fn put_frame_at(s: &[u8], p: usize, out: &mut [u8], at: usize) -> usize
     put_frame(out, at, byte_at(s, p), byte_behind(s, p, 2), payload)
 }
 
-// The line of what a call says, if any.
-pub fn put_line(answer: Answer, piece: &[u8], places: &[u8], out: &mut [u8], at: usize) -> usize
+fn put_fitting(answer: Answer, piece: &[u8], places: &[u8], out: &mut [u8], at: usize) -> usize
     requires { ⌜ at + longest ≤ length (now out) ⌝ }
     ensures { λ r. ⌜ (Puts (now (out .entry)) at (lineBy answer (now (piece .entry)) (now (places .entry))) (now (out .exit)) r) × (r ≤ at + longest) ⌝ }
 {
@@ -89,6 +89,16 @@ pub fn put_line(answer: Answer, piece: &[u8], places: &[u8], out: &mut [u8], at:
         } => put_crc(out, at, calculated, carried),
         Answer::BadState => at,
     }
+}
+
+// The line of what a call says, if any. Answers the place behind it: the same place where there is no room for the longest line.
+pub fn put_line(answer: Answer, piece: &[u8], places: &[u8], out: &mut [u8], at: usize) -> usize
+    ensures { λ r. ⌜ ((r, now (out .exit)) ≡ putLineOf (lineBy answer (now (piece .entry)) (now (places .entry))) at (now (out .entry))) × (r ≤ at + longest) ⌝ }
+{
+    if fits(out.len(), at, 16) {
+        return put_fitting(answer, piece, places, out, at);
+    }
+    at
 }
 
 // The last line, of the held count, at the front of a buffer. Answers how many bytes were written: none where there is no room.

@@ -1,14 +1,14 @@
 -- The loop over the calls: what is known at its head, after a turn, and where it ends.
 -- Assumes nothing.
 use mathlib.Core.Path.{_≡_, refl, sym, ap, _∙_, subst}
-use mathlib.Core.Bool.{Bool, true, false, true≢false, _&&_}
-use mathlib.Core.List.{List, [], _∷_, _++_, append-nil}
+use mathlib.Core.Bool.{true, false, true≢false}
+use mathlib.Core.List.{List, [], _++_, append-nil}
 use Prim.Native.Nat.{ℕ, _+_, _-_, _≤_, _<_}
 use native.Mathlib.Nat.{zero-add, add-zero, sub-zero}
 use native.Mathlib.Omega.{arith}
 use borrow.Author.Tests.{le-leb}
-use lib.ListN.{length, take, drop, length-append, length-drop}
-use lib.Seq.{drop-drop, take-all}
+use lib.ListN.{length, drop, length-append, length-drop}
+use lib.Seq.{drop-drop}
 use Rattle.base.specs.Parts.{pasted}
 use Rattle.base.proofs.Tests.{by-test}
 use Rattle.reading.specs.Answer.{Answer}
@@ -19,10 +19,9 @@ use Rattle.stream.specs.Places.{heldIn}
 use Rattle.stream.specs.Step.{isSpan}
 use Rattle.stream.proofs.Held.{length-held}
 use Rattle.stream.proofs.Spans.{span-bounds}
-use Rattle.lines.specs.Lines.{line}
+use Rattle.lines.specs.Lines.{line, longest}
 use Rattle.lines.specs.Put.{Puts}
-use Rattle.listing.specs.Listing.{Listing, after, full, asking, listOf}
-use Rattle.lines.specs.Lines.{longest}
+use Rattle.listing.specs.Listing.{Listing, after, listOf}
 use Rattle.listing.specs.Drain.{asksFor, lineFirst, Turns, Drains, Lists}
 use Rattle.listing.specs.declared.drain.Turn.{Turn}
 use Rattle.listing.specs.declared.drain.Listed.{Listed}

@@ -2,27 +2,30 @@
 -- asked for they are the lines of all of them.
 -- Assumes nothing.
 use mathlib.Core.Path.{_≡_, refl, sym, ap, ap₂, _∙_, subst}
-use mathlib.Core.Bool.{Bool, true, false, true≢false}
+use mathlib.Core.Bool.{true, true≢false}
 use mathlib.Core.List.{List, [], _∷_, _++_, append-assoc, append-nil, nil≢cons}
-use Prim.Native.Nat.{ℕ, _+_, _-_}
+use Prim.Native.Nat.{ℕ, _-_, _≤_, _<_}
+use native.Mathlib.Omega.{arith}
 use lib.Dec.{ltb}
 use lib.ListN.{length, take, drop}
 use lib.Seq.{drop-drop, drop-length, take-at}
-use Rattle.base.specs.Parts.{pasted}
 use Rattle.base.proofs.Parts.{pasted-front}
 use Rattle.base.proofs.Tests.{by-test}
-use Rattle.reading.specs.Answer.{Answer, drops}
+use Rattle.reading.specs.Answer.{Answer}
 use Rattle.reading.specs.Reading.{First, stop, says, first, Reading, reading}
 use Rattle.reading.specs.Call.{Call, call}
 use Rattle.reading.specs.History.{answered, History, begin, offer, ask}
+use Rattle.reading.proofs.First.{stops-short}
 use Rattle.reading.proofs.Reading as read
-use Rattle.reading.proofs.Call.{answers-first, asks-for-more, holds-all}
+use Rattle.reading.proofs.Call.{answers-first, asks-for-more, holds-all, held-short}
 use Rattle.reading.proofs.History.{faithful}
 use Rattle.stream.specs.Places.{heldIn}
-use Rattle.lines.specs.Lines.{line, linesOf, heldLine}
-use Rattle.listing.specs.Listing.{Listing, after, full, asking, listFrom, listOf}
-use Rattle.lines.specs.Lines.{longest}
-use Rattle.listing.specs.Drain.{Drains}
+use Rattle.stream.specs.Step.{isSpan}
+use Rattle.stream.proofs.Held.{length-held}
+use Rattle.stream.proofs.Spans.{span-bounds}
+use Rattle.lines.specs.Lines.{line, linesOf, heldLine, longest}
+use Rattle.listing.specs.Listing.{Listing, full, asking, listFrom, listOf}
+use Rattle.listing.specs.Drain.{Drains, Lists}
 use Rattle.listing.specs.Shown.{listed}
 use Rattle.listing.specs.declared.drain.Listed.{Listed}
 use Rattle.listing.proofs.Listings.{left-is}
@@ -135,6 +138,21 @@ asks-all m (a ∷ more) held input room e =
     let all = asks-all m more (c .held) (drop (c .taken) input) (room - length (line a)) left yes in
     (sym (drop-drop (l .taken) (c .taken) input) ∙ all .0, all .1)))
 
+-- a listing leaves fewer bytes held than the limit, where fewer were held before
+few-from : (m : ℕ) (answers : List Answer) (held input : List ℕ) (room : ℕ) → 4 ≤ m → length held < m → reading m (held ++ input) .answers ≡ answers
+    → length (listFrom m answers held input room .held) < m
+unfolding listFrom
+few-from m [] held input room four few e =
+    by-test (ltb room longest) (λ q. simp q few) (λ q. simp q (stops-short m (held ++ input) four (none-stops m (held ++ input) e)))
+few-from m (a ∷ more) held input room four few e =
+    let h = read.heads m (held ++ input) a more e in
+    let c = call m held input in
+    let says-a : c .answer ≡ says a = sym (answers-first m held input) ∙ h .0 in
+    let left : reading m (c .held ++ drop (c .taken) input) .answers ≡ more = ap (λ (l : List ℕ). reading m l .answers) (left-is m held input a says-a) ∙ h .1 in
+    let short = held-short m held input four (omega arith) in
+    by-test (ltb room longest) (λ q. simp q few)
+    (λ q. simp q (few-from m more (c .held) (drop (c .taken) input) (room - length (line a)) four (omega arith) left))
+
 -- so the text is the lines of all answers, and what is held is the tail: with the last line, the whole listing of the stream
 module _ {m : ℕ} {stream held text : List ℕ} (unread : List ℕ) (room : ℕ) (t : Told m stream held unread text)
     (asks : listOf m held unread room .asks ≡ true) where
@@ -183,3 +201,16 @@ module _ {m : ℕ} {l : Listing} {input₀ out places outAfter : List ℕ} {r : 
   told-code {stream} {text = text} input later room e t =
       told-as (sym (d .held-is)) (ap (λ (n : ℕ). drop n input ++ later) (sym (d .taken-is))) (ap (λ (x : List ℕ). text ++ x) (sym wrote))
       (subst (After m stream input later text) (sym e) (told-listed input later room t))
+
+pub still-few : {m : ℕ} {before : List ℕ} {start end : ℕ} {input out places outAfter : List ℕ} {r : Listed} → length before ≡ m → length places ≡ m
+    → start ≤ end → end ≤ m → end - start < m → Lists m before start end input out places outAfter r → r .end - r .start < m
+unfolding listOf
+still-few {m} {before} {start} {end} {input} {out} {places} {r = r} was now low high few lists =
+    by-test (isSpan m start end)
+    (λ good.
+    let d = lists .drains good in
+    let held = length-held before start end low (omega arith) in
+    let left = length-held places (r .start) (r .end) (d .ordered) (omega (arith, d .inside)) in
+    let short = few-from m (reading m (heldIn before start end ++ input) .answers) (heldIn before start end) input (length out) (span-bounds m start end good .0) (omega arith) refl in
+    omega (arith, ap length (d .held-is)))
+    (λ bad. let e = lists .refuses bad .0 in rw e few)

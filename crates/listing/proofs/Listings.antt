@@ -1,22 +1,20 @@
 -- The listing, call by call.
 -- Assumes nothing.
-use mathlib.Core.Path.{_≡_, refl, sym, ap, ap₂, _∙_}
-use mathlib.Core.Bool.{true, false}
+use mathlib.Core.Path.{_≡_, sym, ap, ap₂, _∙_}
 use mathlib.Core.List.{List, [], _∷_, _++_, append-assoc}
 use Prim.Native.Nat.{ℕ, _+_, _-_, _≤_, _<_}
 use native.Mathlib.Nat.{add-assoc}
 use native.Mathlib.Omega.{arith}
 use borrow.Author.Tests.{lt-ltb, le-ltb}
-use lib.ListN.{length, drop, length-append, length-drop}
+use lib.ListN.{length, drop, length-drop}
 use Rattle.reading.specs.Answer.{Answer, drops}
 use Rattle.reading.specs.Reading.{stop, says, first, Reading, reading}
 use Rattle.reading.specs.Call.{droppedBy, call}
 use Rattle.reading.proofs.First.{stands}
 use Rattle.reading.proofs.Reading as read
 use Rattle.reading.proofs.Call.{sizes, answers-first, rest}
-use Rattle.lines.specs.Lines.{line}
+use Rattle.lines.specs.Lines.{line, longest}
 use Rattle.listing.specs.Listing.{Listing, after, full, asking, listFrom, listOf}
-use Rattle.lines.specs.Lines.{longest}
 
 -- two runs of lines are one
 pub after-after : (l k : List ℕ) (n j : ℕ) (more : Listing) → after l n (after k j more) ≡ after (l ++ k) (n + j) more

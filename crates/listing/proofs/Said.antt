@@ -2,8 +2,8 @@
 -- Assumes nothing.
 use mathlib.Core.Path.{_≡_, refl, sym, ap, _∙_, subst}
 use mathlib.Core.Bool.{Bool, true, false}
-use mathlib.Core.List.{List, [], _∷_, _++_}
-use Prim.Native.Nat.{ℕ, _+_, _-_, _≤_, _<_}
+use mathlib.Core.List.{List, [], _++_}
+use Prim.Native.Nat.{ℕ, _+_, _-_, _≤_}
 use native.Mathlib.Nat.{add-zero}
 use native.Mathlib.Omega.{arith}
 use lib.Dec.{eqb, ltb}
@@ -21,11 +21,10 @@ use Rattle.stream.specs.declared.step.Answer.{Answer}
 use Rattle.stream.specs.declared.step.Answer.the-variants.{Stop, InPiece, InHeld, InvalidSync, InvalidPacketLength, InvalidCrc, BadState}
 use Rattle.stream.specs.declared.step.Moved.{Moved}
 use Rattle.stream.specs.Places.{heldIn}
-use Rattle.stream.specs.Step.{Said, more, frame, refused, saidOf, meaningOf, Outcome, Moves}
-use Rattle.lines.specs.Lines.{syncWord, lengthWord, frameLine, byteLine, crcLine, line}
-use Rattle.lines.specs.Lines.{longest}
+use Rattle.stream.specs.Step.{Said, more, frame, refused, saidOf, meaningOf, asksForMore, Outcome, Moves}
+use Rattle.lines.specs.Lines.{syncWord, lengthWord, frameLine, byteLine, crcLine, line, longest}
 use Rattle.lines.specs.Put.{Puts, lineBy}
-use Rattle.listing.specs.Drain.{isStop, asksFor, lineFirst, Turns}
+use Rattle.listing.specs.Drain.{asksFor, lineFirst, Turns}
 use Rattle.lines.proofs.Puts.{puts-as}
 
 -- the line of what is said, and whether that asks for more
@@ -105,7 +104,7 @@ line-told (InvalidPacketLength l) piece places w = refl
 line-told (InvalidCrc a b) piece places w = refl
 line-told BadState piece places w = refl
 
-asks-told : (a : Answer) (piece places : List ℕ) → isStop a ≡ isMore (meaningOf a piece places)
+asks-told : (a : Answer) (piece places : List ℕ) → asksForMore a ≡ isMore (meaningOf a piece places)
 unfolding isMore meaningOf
 asks-told Stop piece places = refl
 asks-told (InPiece n) piece places = refl
@@ -132,7 +131,7 @@ module _ {m : ℕ} {before : List ℕ} {start end : ℕ} {input after : List ℕ
       (subst (λ (f : First). Framed (saidOf (ltb 0 (length held)) f)) (answers-first m held input) (framed (ltb 0 (length held)) (cases m (held ++ input))))
 
   pub turned : {out outAfter : List ℕ} {at next : ℕ} {asks : Bool} → Puts out at (lineBy (r .answer) input after) outAfter next → next ≤ at + longest
-      → asks ≡ isStop (r .answer)
+      → asks ≡ asksForMore (r .answer)
       → Turns m held input out at after outAfter (record { start = r .start; end = r .end; taken = r .taken; at = next; asks = asks })
   turned puts short stops =
       record {

@@ -1,6 +1,6 @@
 -- Each public function's promise leaves one answer: what two results that keep it show is the same. Free is only where the held bytes stand.
 -- Assumes nothing.
-use mathlib.Core.Path.{_≡_, refl, sym, ap, ap₂, _∙_}
+use mathlib.Core.Path.{_≡_, sym, _∙_}
 use mathlib.Core.List.{List}
 use Prim.Native.Nat.{ℕ}
 use denote.Ref.{now}

@@ -1,6 +1,7 @@
 // The answers to an input, each as a line, as many as the buffer has room for.
 use lines::line::put_line;
-use stream::step::Answer;
+use stream::step::asks_for_more;
+use stream::step::is_span;
 use stream::step::step_in;
 ghost use mathlib.Core.Path.{_≡_};
 ghost use mathlib.Core.Bool.{true};
@@ -10,7 +11,7 @@ ghost use Rattle.stream.specs.Places.{heldIn};
 ghost use Rattle.stream.specs.Step.{isSpan};
 ghost use Rattle.lines.specs.Lines.{longest};
 ghost use Rattle.listing.specs.Listing.{listOf};
-ghost use Rattle.listing.specs.Drain.{isStop, Turns, Drains, Lists};
+ghost use Rattle.listing.specs.Drain.{Turns, Drains, Lists};
 
 // Why a listing ended.
 pub enum Status {
@@ -40,20 +41,6 @@ struct Turn {
     asks: bool,
 }
 
-fn is_stop(answer: Answer) -> bool
-    ensures { λ r. ⌜ r ≡ isStop answer ⌝ }
-{
-    match answer {
-        Answer::Stop => true,
-        Answer::InPiece(_) => false,
-        Answer::InHeld { at: _, len: _ } => false,
-        Answer::InvalidSync(_) => false,
-        Answer::InvalidPacketLength(_) => false,
-        Answer::InvalidCrc { .. } => false,
-        Answer::BadState => false,
-    }
-}
-
 // One call, and its line.
 fn list_one(
     places: &mut [u8],
@@ -69,7 +56,7 @@ fn list_one(
     let moved = step_in(places, start, end, input);
     let answer = moved.answer;
     let next = put_line(answer, input, places, out, at);
-    let asks = is_stop(answer);
+    let asks = asks_for_more(answer);
     Turn {
         start: moved.start,
         end: moved.end,
@@ -110,15 +97,6 @@ fn drain(places: &mut [u8], start: usize, end: usize, input: &[u8], out: &mut [u
         written: at,
         status: Status::Full,
     }
-}
-
-fn is_span(limit: usize, start: usize, end: usize) -> bool
-    ensures { λ r. ⌜ r ≡ isSpan limit start end ⌝ }
-{
-    if limit < 4 {
-        return false;
-    }
-    start <= end && end <= limit
 }
 
 // The lines of the answers to the held bytes and then the input.

@@ -1,13 +1,24 @@
 // The listing of standard input on standard output, through fixed buffers. What is read and written is outside any contract; what is listed of it
-// is the promise of `listing`. A read or a write that fails ends it.
+// is the promise of `listing`. A read or a write that fails ends it, and is told on standard error.
+use libc::STDERR_FILENO;
 use libc::STDIN_FILENO;
 use libc::STDOUT_FILENO;
 use lines::line::list_held;
 use listing::drain::Status;
 use listing::drain::list_in;
-ghost use Prim.Native.Nat.{_+_, _≤_};
+ghost use Prim.Native.Nat.{_≤_, _<_};
 ghost use lib.ListN.{length};
-ghost use Rattle.listing_io.specs.State.{Sound};
+ghost use Rattle.listing_io.specs.State.{Sound, Ends};
+
+// How a listing ended.
+pub enum Ended {
+    // All of the input is listed, with the line of so many held bytes.
+    Listed(u8),
+    // The input was not read to its end.
+    ReadFailed,
+    // The output was not written.
+    WriteFailed,
+}
 
 // What comes next.
 enum Next {
@@ -15,8 +26,8 @@ enum Next {
     Read,
     // The input has ended: the last line.
     End,
-    // A read or a write failed.
-    Fail,
+    ReadFailed,
+    WriteFailed,
 }
 
 // Where the held bytes stand, how much of the output buffer is filled, and what comes next.
@@ -38,7 +49,11 @@ struct Part {
 }
 
 fn after_write(is_written: bool) -> Next {
-    if is_written { Next::Read } else { Next::Fail }
+    if is_written {
+        Next::Read
+    } else {
+        Next::WriteFailed
+    }
 }
 
 // As many lines as the buffer has room for. A full buffer is written out whole.
@@ -82,7 +97,7 @@ fn list_part(
             end,
             at,
             taken: 0,
-            next: Next::Fail,
+            next: Next::ReadFailed,
             is_done: true,
         },
     }
@@ -126,7 +141,7 @@ fn list_piece(
         start: from,
         end: to,
         at: filled,
-        next: Next::Fail,
+        next: Next::ReadFailed,
     }
 }
 
@@ -142,7 +157,7 @@ fn list_read(places: &mut [u8], out: &mut [u8], start: usize, end: usize, at: us
             start,
             end,
             at,
-            next: Next::Fail,
+            next: Next::ReadFailed,
         };
     }
     if got == 0 {
@@ -161,20 +176,14 @@ fn is_read(next: Next) -> bool {
     match next {
         Next::Read => true,
         Next::End => false,
-        Next::Fail => false,
-    }
-}
-
-fn is_end(next: Next) -> bool {
-    match next {
-        Next::Read => false,
-        Next::End => true,
-        Next::Fail => false,
+        Next::ReadFailed => false,
+        Next::WriteFailed => false,
     }
 }
 
 // Reads to the end of the input.
 fn list_reads(places: &mut [u8], out: &mut [u8]) -> State
+    requires { ⌜ 0 < length (now places) ⌝ }
     ensures { λ r. ⌜ Sound (length (now (places .entry))) (length (now (out .entry))) (r .start) (r .end) (r .at) ⌝ }
 {
     let mut start = 0;
@@ -196,7 +205,7 @@ fn list_reads(places: &mut [u8], out: &mut [u8]) -> State
         start,
         end,
         at,
-        next: Next::Fail,
+        next: Next::ReadFailed,
     }
 }
 
@@ -206,16 +215,55 @@ fn write_held(held: u8) -> bool {
     io::write_all(STDOUT_FILENO, &line[..n])
 }
 
-pub fn list_input() {
+// The last line, where the input has ended.
+fn list_end(next: Next, held: u8) -> Ended
+    requires { ⌜ held < 64 ⌝ }
+    ensures { λ r. ⌜ Ends r ⌝ }
+{
+    match next {
+        Next::Read => Ended::ReadFailed,
+        Next::End => {
+            if write_held(held) {
+                Ended::Listed(held)
+            } else {
+                Ended::WriteFailed
+            }
+        }
+        Next::ReadFailed => Ended::ReadFailed,
+        Next::WriteFailed => Ended::WriteFailed,
+    }
+}
+
+fn list_all() -> Ended
+    ensures { λ r. ⌜ Ends r ⌝ }
+{
     let mut places = [0u8; 64];
     let mut out = io::large_buffer();
     let state = list_reads(&mut places, &mut out);
     let at = state.at;
     if !io::write_all(STDOUT_FILENO, &out[..at]) {
-        return;
+        return Ended::WriteFailed;
     }
     let next = state.next;
-    if is_end(next) {
-        write_held((state.end - state.start) as u8);
+    list_end(next, (state.end - state.start) as u8)
+}
+
+fn tell(ended: Ended) {
+    match ended {
+        Ended::Listed(_) => {}
+        Ended::ReadFailed => {
+            io::write_all(STDERR_FILENO, b"list: the input was not read to its end\n");
+        }
+        Ended::WriteFailed => {
+            io::write_all(STDERR_FILENO, b"list: the output was not written\n");
+        }
     }
+}
+
+pub fn list_input() -> Ended
+    ensures { λ r. ⌜ Ends r ⌝ }
+{
+    let ended = list_all();
+    tell(ended);
+    ended
 }

@@ -1,19 +1,19 @@
 -- What the tests of a count, of a span and of a form say; the form in one group; and what is told at each return.
 -- Assumes nothing.
-use mathlib.Core.Path.{_≡_, refl, sym, ap, ap₂, _∙_}
+use mathlib.Core.Path.{_≡_, sym, ap, ap₂, _∙_}
 use mathlib.Core.Bool.{true, false, and-eq-true-iff, _&&_}
 use mathlib.Core.List.{List, [], _∷_, _++_}
-use Prim.Native.Nat.{ℕ, suc, _+_, _-_, _≤_, _<_}
+use Prim.Native.Nat.{ℕ, _+_, _-_, _≤_, _<_}
 use native.Mathlib.Omega.{arith}
 use borrow.Author.Tests.{ltb-true, leb-true, eqb-true, lt-ltb, le-ltb}
 use lib.Dec.{leb, ltb, eqb}
-use lib.ListN.{length, getD, take, drop, set, length-drop}
+use lib.ListN.{length, getD, set, length-drop}
 use Rattle.base.specs.Parts.{pasted, copied}
 use Rattle.stream.specs.Places.{heldIn}
 use Rattle.stream.proofs.Held.{length-held}
 use Rattle.saved.specs.Groups.{groupsWithin, groups}
 use Rattle.saved.specs.Form.{savedForm, isCount, isSavable, isForm, heldOf}
-use Rattle.saved.specs.Save.{Told, done, refused, saveOf, restoreOf}
+use Rattle.saved.specs.Save.{done, refused, saveOf, restoreOf}
 use Rattle.base.proofs.Parts.{paste-all, copied-fits}
 use Rattle.saved.proofs.Writes.{byte-and-copy}
 

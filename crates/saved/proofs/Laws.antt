@@ -2,27 +2,27 @@
 -- it is the saved form of some bytes; and demand 3 goes on across a save and a restore.
 -- Assumes nothing.
 use mathlib.Core.Path.{_≡_, refl, sym, ap, ap₂, _∙_, subst}
-use mathlib.Core.Bool.{Bool, true, false, true≢false, _&&_, and-eq-true-iff}
-use mathlib.Core.List.{List, [], _∷_, _++_, append-assoc}
-use Prim.Native.Nat.{ℕ, zero, suc, _+_, _-_, _≤_, _<_}
+use mathlib.Core.Bool.{true, false}
+use mathlib.Core.List.{List, [], _∷_, _++_}
+use Prim.Native.Nat.{ℕ, suc, _+_, _-_, _<_}
 use native.Mathlib.Nat.{sub-zero}
 use native.Mathlib.Omega.{arith}
-use borrow.Author.Tests.{ltb-true, ltb-false, leb-true, lt-ltb, le-ltb, le-leb, lt-leb, eq-eqb}
+use borrow.Author.Tests.{ltb-true, ltb-false, lt-ltb, le-leb, lt-leb, eq-eqb}
 use lib.Dec.{leb, ltb}
-use lib.ListN.{length, getD, take, drop, length-drop}
+use lib.ListN.{length, getD, take, drop}
 use lib.Seq.{take-at, drop-drop}
 use Rattle.base.specs.Parts.{pasted}
 use Rattle.base.proofs.Parts.{pasted-front}
 use Rattle.base.proofs.Tests.{by-test}
 use Rattle.reading.specs.Answer.{Answer}
 use Rattle.reading.specs.Reading.{reading, _⊕_}
-use Rattle.reading.specs.History.{History, begin}
+use Rattle.reading.specs.History.{History}
 use Rattle.reading.proofs.History.{resumed}
 use Rattle.stream.specs.Places.{heldIn}
 use Rattle.stream.proofs.Held.{length-held}
 use Rattle.saved.specs.Form.{savedForm, isCount, isSavable, isForm, heldOf}
 use Rattle.saved.specs.Save.{Told, done, refused, saveOf, restoreOf}
-use Rattle.saved.proofs.Forms.{form-is, length-form, Savable, savable, Accepted, accepted}
+use Rattle.saved.proofs.Forms.{form-is, Savable, savable, Accepted, accepted}
 
 -- ---- forms
 
@@ -45,26 +45,23 @@ module _ (m : ℕ) (held : List ℕ) (few : length held < m) (group : length hel
   pub held-again : heldOf (savedForm held) ≡ held
   held-again = ap heldOf (form-is held group)
 
--- a form that is accepted is the saved form of its held bytes, which are few
+-- a form that is accepted is the saved form of its held bytes, whose count takes one group
 module _ (m : ℕ) (form : List ℕ) (good : isForm m form ≡ true) where
-  by-form : (f : List ℕ) → Accepted m f → (length (heldOf f) < m) × ((length (heldOf f) < 128) × (savedForm (heldOf f) ≡ f))
+  by-form : (f : List ℕ) → Accepted m f → (length (heldOf f) < 128) × (savedForm (heldOf f) ≡ f)
   by-form [] a = absurd (let one = a .some in omega arith)
   by-form (n ∷ held) a =
       let size : length held ≡ n = omega (arith, a .exact) in
       let group : length held < 128 = omega (arith, a .group) in
-      (omega (arith, a .few), (group, form-is held group ∙ ap (λ (k : ℕ). k ∷ held) size))
+      (group, form-is held group ∙ ap (λ (k : ℕ). k ∷ held) size)
 
-  facts : (length (heldOf form) < m) × ((length (heldOf form) < 128) × (savedForm (heldOf form) ≡ form))
+  facts : (length (heldOf form) < 128) × (savedForm (heldOf form) ≡ form)
   facts = by-form form (accepted m form good)
 
-  pub held-few : length (heldOf form) < m
-  held-few = facts .0
-
   pub held-group : length (heldOf form) < 128
-  held-group = facts .1 .0
+  held-group = facts .0
 
   pub form-again : savedForm (heldOf form) ≡ form
-  form-again = facts .1 .1
+  form-again = facts .1
 
 -- of two accepted saved forms, equal held bytes mean equal forms
 pub same-form : (m : ℕ) (f g : List ℕ) → isForm m f ≡ true → isForm m g ≡ true → heldOf f ≡ heldOf g → f ≡ g

@@ -3,7 +3,7 @@ use mathlib.Core.Path.{_≡_, sym, ap, _∙_}
 use mathlib.Core.List.{List, _++_}
 use Prim.Native.Nat.{ℕ, _+_, _-_, _≤_, _<_}
 use native.Mathlib.Omega.{arith}
-use native.Mathlib.Nat.{zero-add, sub-zero}
+use native.Mathlib.Nat.{sub-zero}
 use lib.ListN.{length, take, drop, getD, set, length-drop, length-take, List·getD-append}
 use lib.Seq.{paste, length-take-le, getD-append-add, getD-drop, getD-take, take-paste, drop-append-le, take-at, take-length, drop-drop}
 use Rattle.base.proofs.Parts as shared

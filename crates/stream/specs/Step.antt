@@ -44,6 +44,15 @@ meaningOf (InvalidPacketLength l) piece places = refused 2 (l ∷ [])
 meaningOf (InvalidCrc calculated carried) piece places = refused 3 (calculated ∷ carried ∷ [])
 meaningOf BadState piece places = refused 8 []
 
+abbrev pub asksForMore : Answer → Bool
+asksForMore Stop = true
+asksForMore (InPiece n) = false
+asksForMore (InHeld at n) = false
+asksForMore (InvalidSync b) = false
+asksForMore (InvalidPacketLength l) = false
+asksForMore (InvalidCrc calculated carried) = false
+asksForMore BadState = false
+
 -- ---- One call
 pub record Outcome : Type 0 where
   pub said : Said

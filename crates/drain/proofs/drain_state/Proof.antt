@@ -36,15 +36,15 @@ add-taken c =
     let some : 0 < loop .left = omega arith in
     record { fits = omega (arith, fits (loop .inv) some (here .next-raw-packet .ensures)) }
 
-asks-requires : tie.Need-asks-requires Inv-loop μ-loop
-asks-requires c κs = search needs
+asks-for-more-requires : tie.Need-asks-for-more-requires Inv-loop μ-loop
+asks-for-more-requires c κs = search needs
 
 returns : tie.Need-returns Inv-loop μ-loop
 returns c =
     let here = c .before .before .before .before .before in
     let loop = here .before .before .before .loop in
     let some : 0 < loop .left = omega arith in
-    asked (loop .inv) some (here .next-raw-packet .ensures) (sym (c .before .asks .ensures) ∙ c .if1 .taken)
+    asked (loop .inv) some (here .next-raw-packet .ensures) (sym (c .before .asks-for-more .ensures) ∙ c .if1 .taken)
 
 frames-in-requires : tie.Need-frames-in-requires Inv-loop μ-loop
 frames-in-requires c κs = search needs
@@ -77,7 +77,7 @@ loop-again c =
     let here = c .before .before .before .before .before .before .before in
     let loop = here .before .before .before .loop in
     let some : 0 < loop .left = omega arith in
-    goes (loop .inv) some (here .next-raw-packet .ensures) (sym (c .before .before .before .asks .ensures) ∙ c .before .before .if1 .left) (c .before .frames-in .ensures) (c .refusals-in .ensures)
+    goes (loop .inv) some (here .next-raw-packet .ensures) (sym (c .before .before .before .asks-for-more .ensures) ∙ c .before .before .if1 .left) (c .before .frames-in .ensures) (c .refusals-in .ensures)
 
 returns-2 : tie.Need-returns-2 Inv-loop μ-loop
 returns-2 c = spent (c .before .loop .inv) (omega arith)
@@ -94,7 +94,7 @@ drain-state-spec =
     part-next-raw-packet-end
     next-raw-packet-requires
     add-taken
-    asks-requires
+    asks-for-more-requires
     returns
     frames-in-requires
     add-frames

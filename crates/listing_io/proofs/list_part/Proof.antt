@@ -1,11 +1,12 @@
 -- `listing_io::list_part` meets its contract. Assumes nothing.
-use mathlib.Core.Path.{_≡_}
+use mathlib.Core.Path.{_≡_, refl}
 use mathlib.Core.List.{_++_}
-use Prim.Native.Nat.{ℕ, _+_, _-_, _≤_}
+use Prim.Native.Nat.{_-_, _≤_, _<_}
 use native.Mathlib.Omega.{arith}
 use lib.ListN.{length, take, drop, length-take, length-drop}
 use borrow.Rule.Slice.PartMut.{same-len-mid}
 use Rattle.listing.proofs.Drained.{list-fits}
+use Rattle.listing.proofs.Laws.{still-few}
 use borrow.Author.Needs.{needs}
 use Rattle.listing_io.proofs.list_part.Statement.{statement}
 use Rattle.listing_io.proofs.list_part.Tie as tie
@@ -18,6 +19,12 @@ fits c =
     let o = a .out .now in
     let f = list-fits (c .list-in .ensures) (c .before .before .before .before .before .before .pre .ordered) (c .before .before .before .before .before .before .pre .inside) in
     (f .0, (omega (arith, f .1 .0, length-take (length o - a .at) (drop (a .at) o), length-drop (a .at) o), f .1 .1))
+
+few : (c : tie.After-list-in)
+    → (let a = c .before .before .before .before .before .before .args in let r = c .list-in .result in r .end - r .start < length (a .places .now))
+few c =
+    let start = c .before .before .before .before .before .before in
+    still-few refl (c .list-in .kept .0) (start .pre .ordered) (start .pre .inside) (start .pre .few) (c .list-in .ensures)
 
 sized : (c : tie.After-list-in) → (let a = c .before .before .before .before .before .before .args in let o = a .out .now in let l = c .list-in .last .1 .1 .1 .1 .0 in
     length (take (a .at) o ++ (l ++ drop (length o - a .at) (drop (a .at) o))) ≡ length o)
@@ -73,8 +80,9 @@ same-length-2 c = search needs
 
 returns : tie.Need-returns
 returns c =
-    let f = fits (c .before .before .before .before .before .before .before) in
-    (record { ordered = f .1 .1 .0; inside = f .1 .1 .1; room = omega (arith, f .1 .0, c .before .before .before .before .before .before .before .before .before .before .before .before .before .pre .room) }, f .0)
+    let listed = c .before .before .before .before .before .before .before in
+    let f = fits listed in
+    (record { ordered = f .1 .1 .0; inside = f .1 .1 .1; few = few listed; room = omega (arith, f .1 .0, c .before .before .before .before .before .before .before .before .before .before .before .before .before .pre .room) }, f .0)
 
 same-length-3 : tie.Need-same-length-3
 same-length-3 c = search needs
@@ -84,8 +92,9 @@ same-length-4 c = search needs
 
 returns-2 : tie.Need-returns-2
 returns-2 c =
-    let f = fits (c .before .before .before .before .before .before .before .before .before .before) in
-    (record { ordered = f .1 .1 .0; inside = f .1 .1 .1; room = omega arith }, f .0)
+    let listed = c .before .before .before .before .before .before .before .before .before .before in
+    let f = fits listed in
+    (record { ordered = f .1 .1 .0; inside = f .1 .1 .1; few = few listed; room = omega arith }, f .0)
 
 same-length-5 : tie.Need-same-length-5
 same-length-5 c = search needs

@@ -1,6 +1,6 @@
 -- `listing_io::list_piece` meets its contract. The measure is the number of turns that are left. Assumes nothing.
 use mathlib.Core.Path.{_≡_, refl, _∙_}
-use Prim.Native.Nat.{ℕ, _+_, _-_, _≤_}
+use Prim.Native.Nat.{_+_, _-_, _≤_}
 use native.Mathlib.Omega.{arith}
 use lib.ListN.{length, drop, length-take, length-drop}
 use Rattle.listing_io.specs.State.{Sound}
@@ -21,7 +21,7 @@ sound : (c : tie.After-list-part Inv-loop μ-loop)
 sound c =
     let i = c .before .before .before .before .before .loop .inv in
     let p = c .list-part .ensures .0 in
-    record { ordered = p .ordered; inside = omega (arith, p .inside, i .1 .1 .0); room = omega (arith, p .room, i .1 .1 .1) }
+    record { ordered = p .ordered; inside = omega (arith, p .inside, i .1 .1 .0); few = omega (arith, p .few, i .1 .1 .0); room = omega (arith, p .room, i .1 .1 .1) }
 
 taken-in : (c : tie.After-list-part Inv-loop μ-loop) → c .before .before .before .before .before .loop .taken + c .list-part .result .taken ≤ length (c .before .before .before .before .before .before .before .before .before .args .piece .now)
 taken-in c =
@@ -45,7 +45,7 @@ part-list-part-end : tie.Need-part-list-part-end Inv-loop μ-loop
 part-list-part-end c = omega arith
 
 list-part-requires : tie.Need-list-part-requires Inv-loop μ-loop
-list-part-requires c κs = let i = c .before .before .before .before .loop .inv in record { ordered = i .0 .ordered; inside = omega (arith, i .0 .inside, i .1 .1 .0); room = omega (arith, i .0 .room, i .1 .1 .1) }
+list-part-requires c κs = let i = c .before .before .before .before .loop .inv in record { ordered = i .0 .ordered; inside = omega (arith, i .0 .inside, i .1 .1 .0); few = omega (arith, i .0 .few, i .1 .1 .0); room = omega (arith, i .0 .room, i .1 .1 .1) }
 
 add-taken : tie.Need-add-taken Inv-loop μ-loop
 add-taken c = omega (arith, taken-in (c .before .before .before .before .before))

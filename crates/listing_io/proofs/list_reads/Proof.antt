@@ -20,16 +20,16 @@ sound : (c : tie.After-list-read Inv-loop μ-loop)
 sound c =
     let i = c .before .before .before .before .loop .inv in
     let p = c .list-read .ensures in
-    record { ordered = p .ordered; inside = omega (arith, p .inside, i .1 .0); room = omega (arith, p .room, i .1 .1) }
+    record { ordered = p .ordered; inside = omega (arith, p .inside, i .1 .0); few = omega (arith, p .few, i .1 .0); room = omega (arith, p .room, i .1 .1) }
 
 loop-holds : tie.Need-loop-holds Inv-loop μ-loop
-loop-holds c = (record { ordered = omega arith; inside = omega arith; room = omega arith }, (refl, refl))
+loop-holds c = (record { ordered = omega arith; inside = omega arith; few = omega arith; room = omega arith }, (refl, refl))
 
 sub-turns : tie.Need-sub-turns Inv-loop μ-loop
 sub-turns c = omega arith
 
 list-read-requires : tie.Need-list-read-requires Inv-loop μ-loop
-list-read-requires c κs = let i = c .before .before .before .loop .inv in record { ordered = i .0 .ordered; inside = omega (arith, i .0 .inside, i .1 .0); room = omega (arith, i .0 .room, i .1 .1) }
+list-read-requires c κs = let i = c .before .before .before .loop .inv in record { ordered = i .0 .ordered; inside = omega (arith, i .0 .inside, i .1 .0); few = omega (arith, i .0 .few, i .1 .0); room = omega (arith, i .0 .room, i .1 .1) }
 
 is-read-requires : tie.Need-is-read-requires Inv-loop μ-loop
 is-read-requires c κs = search needs

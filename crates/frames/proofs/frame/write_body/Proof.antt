@@ -1,10 +1,7 @@
 -- `frames::frame::write_body` meets its contract: a refusal is passed on. Assumes nothing.
-use Prim.Native.Nat.{_≤_}
-use lib.ListN.{length}
 use borrow.Author.Needs.{needs}
 use Rattle.layout.specs.Writing.{writeOf}
-use Rattle.layout.specs.declared.Written.{Written}
-use Rattle.frames.specs.Frames.{framedBody, imageIn, sizeIn}
+use Rattle.frames.specs.Frames.{framedBody, imageIn}
 use Rattle.frames.proofs.frame.write_body.Statement.{statement}
 use Rattle.frames.proofs.frame.write_body.Tie as tie
 

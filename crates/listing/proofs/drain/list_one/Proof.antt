@@ -1,4 +1,5 @@
 -- `listing::drain::list_one` meets its contract. Assumes nothing.
+use Rattle.lines.proofs.Puts.{puts-line}
 use Rattle.listing.proofs.Said.{turned}
 use borrow.Author.Needs.{needs}
 use Rattle.listing.proofs.drain.list_one.Statement.{statement}
@@ -10,8 +11,8 @@ step-in-requires c κs = search needs
 put-line-requires : tie.Need-put-line-requires
 put-line-requires c κs = search needs
 
-is-stop-requires : tie.Need-is-stop-requires
-is-stop-requires c κs = search needs
+asks-for-more-requires : tie.Need-asks-for-more-requires
+asks-for-more-requires c κs = search needs
 
 same-length : tie.Need-same-length
 same-length c = search needs
@@ -21,7 +22,11 @@ same-length-2 c = search needs
 
 returns : tie.Need-returns
 returns c =
-    turned (c .before .before .before .before .before .before .before .before .step-in .ensures .moves (c .before .before .before .before .before .before .before .before .before .before .before .before .before .pre .0)) (c .before .before .before .put-line .ensures .0) (c .before .before .before .put-line .ensures .1) (c .is-stop .ensures)
+    let put = c .before .before .before in
+    let moved = put .before .before .before .before .before in
+    let start = moved .before .before .before .before .before in
+    turned (moved .step-in .ensures .moves (start .pre .0)) (puts-line (start .pre .1) (put .put-line .ensures .0)) (put .put-line .ensures .1)
+    (c .asks-for-more .ensures)
 
 pub list-one-spec : {M : Type 1} → statement M
 list-one-spec =
@@ -29,7 +34,7 @@ list-one-spec =
     (tie.spec
     step-in-requires
     put-line-requires
-    is-stop-requires
+    asks-for-more-requires
     same-length
     same-length-2
     returns)

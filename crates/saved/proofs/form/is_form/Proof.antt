@@ -1,10 +1,8 @@
 -- `saved::form::is_form` meets its contract. Assumes nothing.
 use mathlib.Core.Path.{sym, ap, _∙_}
-use mathlib.Core.List.{List}
 use Prim.Native.Nat.{ℕ, _+_}
 use borrow.Author.Tests.{le-leb, lt-leb, eq-eqb, ne-eqb}
-use lib.ListN.{length, getD}
-use Rattle.saved.specs.Form.{isForm, isCount}
+use Rattle.saved.specs.Form.{isForm}
 use borrow.Author.Needs.{needs}
 use Rattle.saved.proofs.form.is_form.Statement.{statement}
 use Rattle.saved.proofs.form.is_form.Tie as tie

@@ -1,5 +1,4 @@
 -- `saved::form::is_savable` meets its contract. Assumes nothing.
-use mathlib.Core.Bool.{and-false}
 use borrow.Author.Tests.{le-leb, lt-leb}
 use Rattle.saved.specs.Form.{isSavable}
 use borrow.Author.Needs.{needs}

@@ -1,5 +1,4 @@
 -- `saved::lent::reset_lent` meets its contract. Assumes nothing.
-use mathlib.Core.Path.{_≡_}
 use native.Mathlib.Omega.{arith}
 use borrow.Author.Tests.{eq-eqb, ne-eqb}
 use Rattle.saved.specs.Save.{resetLentOf}

@@ -1,12 +1,10 @@
 -- `saved::lent::save_lent` meets its contract. Assumes nothing.
-use mathlib.Core.Path.{_≡_, sym, ap, _∙_}
-use mathlib.Core.List.{List}
-use Prim.Native.Nat.{ℕ, _-_}
+use Prim.Native.Nat.{_-_}
 use native.Mathlib.Omega.{arith}
 use borrow.Author.Tests.{eq-eqb, ne-eqb}
 use lib.ListN.{length, drop, length-drop}
 use lib.Seq.{take-all}
-use Rattle.saved.specs.Save.{saveOf, saveLentOf}
+use Rattle.saved.specs.Save.{saveLentOf}
 use borrow.Author.Needs.{needs}
 use Rattle.saved.proofs.lent.save_lent.Statement.{statement}
 use Rattle.saved.proofs.lent.save_lent.Tie as tie

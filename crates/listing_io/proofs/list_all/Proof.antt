@@ -1,10 +1,10 @@
--- `listing_io::list_input` is safe and ends. Assumes nothing.
+-- `listing_io::list_all` meets its contract. Assumes nothing.
 use mathlib.Core.Path.{sym}
 use native.Mathlib.Omega.{arith}
 use lib.Seq.{length-take-le}
 use borrow.Author.Needs.{needs}
-use Rattle.listing_io.proofs.list_input.Statement.{statement}
-use Rattle.listing_io.proofs.list_input.Tie as tie
+use Rattle.listing_io.proofs.list_all.Statement.{statement}
+use Rattle.listing_io.proofs.list_all.Tie as tie
 
 large-buffer-requires : tie.Need-large-buffer-requires
 large-buffer-requires c κs = search needs
@@ -32,26 +32,20 @@ write-all-requires c κs = search needs
 returns : tie.Need-returns
 returns c = search needs
 
-is-end-requires : tie.Need-is-end-requires
-is-end-requires c κs = search needs
+sub-list-end : tie.Need-sub-list-end
+sub-list-end c = search needs
 
-sub-write-held : tie.Need-sub-write-held
-sub-write-held c = search needs
+cast-list-end : tie.Need-cast-list-end
+cast-list-end c = search needs
 
-cast-write-held : tie.Need-cast-write-held
-cast-write-held c = search needs
-
-write-held-requires : tie.Need-write-held-requires
-write-held-requires c κs = search needs
+list-end-requires : tie.Need-list-end-requires
+list-end-requires c κs = search needs
 
 returns-2 : tie.Need-returns-2
 returns-2 c = search needs
 
-returns-3 : tie.Need-returns-3
-returns-3 c = search needs
-
-pub list-input-spec : {M : Type 1} → statement M
-list-input-spec =
+pub list-all-spec : {M : Type 1} → statement M
+list-all-spec =
     tie.close
     (tie.spec
     large-buffer-requires
@@ -62,9 +56,7 @@ list-input-spec =
     slice-aggregate-write-all
     write-all-requires
     returns
-    is-end-requires
-    sub-write-held
-    cast-write-held
-    write-held-requires
-    returns-2
-    returns-3)
+    sub-list-end
+    cast-list-end
+    list-end-requires
+    returns-2)
