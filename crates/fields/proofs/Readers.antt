@@ -5,12 +5,10 @@ use mathlib.Core.Bool.{Bool, true, false}
 use mathlib.Core.Path.{_≡_, refl, ap, ap₂, _∙_}
 use mathlib.Core.List.{List, [], _∷_}
 use native.Mathlib.Nat.{lt-of-lt-of-le}
-use native.Mathlib.Omega.{arith}
 use borrow.Author.Tests.{le-leb, lt-leb}
 use lib.Dec.{T, ltb, leb, ltb→lt, leb→le}
 use lib.IntN.{ℤ, pos}
 use lib.ListN.{length, getD}
-use lib.Signed.{mag}
 use mir.Syntax.{w8}
 use mir.Val.{Fits, hbits}
 use mir.ValLaws.{toZ-ofZ}
@@ -44,31 +42,29 @@ gotFrom [] at bs = []
 gotFrom (f ∷ fs) at bs = gotValue (f .sign) (f .width) (beOf (part bs at (f .width))) ∷ gotFrom fs (at + f .width) bs
 
 module _ (bs : List ℕ) (b : Bytes bs) where
-  got-value :
-      (s : Bool) (w at : ℕ) → T (roomBy s w) → at + w ≤ length bs
-      → gotValue s w (beOf (part bs at w)) ≡ readAsSigned s w (beOf (part bs at w))
-  got-value true w at t h =
+  got-value : (s : Bool) (w at : ℕ) → T (roomBy s w) → gotValue s w (beOf (part bs at w)) ≡ readAsSigned s w (beOf (part bs at w))
+  got-value true w at t =
       let some : 0 < w = ltb→lt 0 w (both-left (ltb 0 w) (leb (256 ^ w / 2) (2 ^ hbits (machine w))) t) in
       let enough : 256 ^ w / 2 ≤ 2 ^ hbits (machine w) =
       leb→le (256 ^ w / 2) (2 ^ hbits (machine w)) (both-right (ltb 0 w) (leb (256 ^ w / 2) (2 ^ hbits (machine w))) t) in
-      toZ-ofZ (machine w) (signedOf w (beOf (part bs at w))) (record { sfits = lt-of-lt-of-le (signed-part-range bs at w some b h) enough })
-  got-value false w at t h = refl
+      toZ-ofZ (machine w) (signedOf w (beOf (part bs at w))) (record { sfits = lt-of-lt-of-le (signed-part-range bs at w some b) enough })
+  got-value false w at t = refl
 
-  got-each : (fs : List Field) (at : ℕ) → T (room fs) → at + sizeOf fs ≤ length bs → gotFrom fs at bs ≡ readFrom fs at bs
+  got-each : (fs : List Field) (at : ℕ) → T (room fs) → gotFrom fs at bs ≡ readFrom fs at bs
   unfolding gotFrom
-  got-each [] at t h = refl
-  got-each (f ∷ fs) at t h =
+  got-each [] at t = refl
+  got-each (f ∷ fs) at t =
       ap₂ (λ (z : ℤ) (zs : List ℤ). z ∷ zs)
-      (got-value (f .sign) (f .width) at (both-left (roomBy (f .sign) (f .width)) (room fs) t) (omega arith))
-      (got-each fs (at + f .width) (both-right (roomBy (f .sign) (f .width)) (room fs) t) (omega arith))
+      (got-value (f .sign) (f .width) at (both-left (roomBy (f .sign) (f .width)) (room fs) t))
+      (got-each fs (at + f .width) (both-right (roomBy (f .sign) (f .width)) (room fs) t))
 
 module _ (fs : List Field) (payload : List ℕ) where
   pub refused : length payload < sizeOf fs → tooShort ≡ readOf fs payload
   refused h = simp (lt-leb _ _ h)
 
-  module _ (t : T (room fs)) (known : (i : ℕ) → Fits w8 (getD payload i 0)) (h : sizeOf fs ≤ length payload) where
+  module _ (t : T (room fs)) (known : (i : ℕ) → Fits w8 (getD payload i 0)) where
     pub got : gotFrom fs 0 payload ≡ readFrom fs 0 payload
-    got = got-each payload (λ i. known i .fits) fs 0 t (omega arith)
+    got = got-each payload (λ i. known i .fits) fs 0 t
 
-    pub all-got : {a : Answer} → a ≡ read (gotFrom fs 0 payload) → a ≡ readOf fs payload
-    all-got e = simp (le-leb _ _ h) (e ∙ ap read got)
+    pub all-got : {a : Answer} → sizeOf fs ≤ length payload → a ≡ read (gotFrom fs 0 payload) → a ≡ readOf fs payload
+    all-got h e = simp (le-leb _ _ h) (e ∙ ap read got)

@@ -11,15 +11,15 @@ use lib.ListN.{length, take, drop, length-append, length-take}
 use lib.Signed.{mag}
 use mir.Val.{SFits}
 use mir.ValLaws.{toZ-ofZ}
-use Rattle.base.specs.Parts.{pasted}
-use Rattle.base.proofs.Parts.{pasted-append}
+use Rattle.base.specs.Parts.{pasted, placed}
+use Rattle.base.proofs.Parts.{length-pasted, pasted-nil, pasted-append, placed-fits}
 use Rattle.numbers.specs.BigEndian.{bytesOf}
 use Rattle.numbers.specs.TwosComplement.{twosOf}
 use Rattle.numbers.proofs.TwosComplement.{bytesOf-natural}
-use Rattle.layout.specs.Layout.{Field, sizeOf, bytesFor, recordBytes, writtenFrom}
+use Rattle.layout.specs.Layout.{Field, sizeOf, bytesFor, recordBytes}
 use Rattle.layout.specs.Writing.{bytes, writeOf}
 use Rattle.layout.specs.declared.Written.the-variants.{Wrote, BufferOverflow}
-use Rattle.layout.proofs.Fields.{length-recordBytes, written-fields}
+use Rattle.layout.proofs.Fields.{length-bytesFor, length-recordBytes}
 use Rattle.layout.proofs.Writing.{writes, overflows}
 use Rattle.fields.proofs.Carried.{machine, carry}
 
@@ -42,25 +42,30 @@ putBytes false w z = bytesOf w (mag z)
 unfoldable pub putFrom : List Field → List ℤ → ℕ → List ℕ → List ℕ
 putFrom [] vs at d = d
 putFrom (f ∷ fs) [] at d = d
-putFrom (f ∷ fs) (v ∷ vs) at d = putFrom fs vs (at + f .width) (pasted d at (putBytes (f .sign) (f .width) v))
+putFrom (f ∷ fs) (v ∷ vs) at d = putFrom fs vs (at + f .width) (placed d at (putBytes (f .sign) (f .width) v))
 
 put-bytes : (s : Bool) (w : ℕ) (z : ℤ) → TypedBy s w z → putBytes s w z ≡ bytesOf w (twosOf w z)
 put-bytes true w z h = ap (λ (y : ℤ). bytesOf w (twosOf w y)) (toZ-ofZ (machine w) z h)
 put-bytes false w z h = sym (bytesOf-natural w (mag z)) ∙ ap (λ (y : ℤ). bytesOf w (twosOf w y)) (sym h)
 
-put-each : (fs : List Field) (vs : List ℤ) (at : ℕ) (d : List ℕ) → Typed fs vs → putFrom fs vs at d ≡ writtenFrom fs vs at d
-unfolding putFrom writtenFrom
-put-each [] vs at d h = refl
-put-each (f ∷ fs) [] at d h = refl
-put-each (f ∷ fs) (v ∷ vs) at d h =
-    ap (λ (l : List ℕ). putFrom fs vs (at + f .width) (pasted d at l)) (put-bytes (f .sign) (f .width) v (h .0))
-    ∙ put-each fs vs (at + f .width) (pasted d at (bytesFor f v)) (h .1)
+put-each :
+    (fs : List Field) (vs : List ℤ) (at : ℕ) (d : List ℕ)
+    → at + sizeOf fs ≤ length d → Typed fs vs → putFrom fs vs at d ≡ pasted d at (recordBytes fs vs)
+unfolding putFrom
+put-each [] vs at d room h = sym (pasted-nil d at)
+put-each (f ∷ fs) [] at d room h = sym (pasted-nil d at)
+put-each (f ∷ fs) (v ∷ vs) at d room h =
+    let b : List ℕ = bytesFor f v in
+    let long = length-bytesFor f v in
+    ap (putFrom fs vs (at + f .width)) (ap (placed d at) (put-bytes (f .sign) (f .width) v (h .0)) ∙ placed-fits d at b (omega arith))
+    ∙ put-each fs vs (at + f .width) (pasted d at b) (rw (length-pasted d at b (omega arith)) (omega arith)) (h .1)
+    ∙ pasted-append d at (f .width) b (recordBytes fs vs) long (omega arith)
 
 -- the fields' bytes from `at` on, and all beside them as it was
 pub put-fields :
     (fs : List Field) (vs : List ℤ) (at : ℕ) (d : List ℕ) {after : List ℕ}
     → at + sizeOf fs ≤ length d → Typed fs vs → after ≡ putFrom fs vs at d → after ≡ pasted d at (recordBytes fs vs)
-put-fields fs vs at d room typed e = e ∙ put-each fs vs at d typed ∙ written-fields fs vs at d room
+put-fields fs vs at d room typed e = e ∙ put-each fs vs at d room typed
 
 -- ---- a layout in two parts
 

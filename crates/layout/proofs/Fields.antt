@@ -15,11 +15,11 @@ use lib.Seq.{drop-cons, set-at, append-snoc, take-all, take-suc, length-take-le,
 use Rattle.base.specs.Bytes.{Bytes}
 use Rattle.numbers.specs.BigEndian.{beOf, bytesOf}
 use Rattle.numbers.specs.TwosComplement.{twosOf}
-use Rattle.base.specs.Parts.{part, pasted}
+use Rattle.base.specs.Parts.{part}
 use Rattle.numbers.proofs.BigEndian.{length-bytesOf, beOf-bytesOf, bytesOf-beOf, beOf-lt}
 use Rattle.numbers.proofs.TwosComplement.{signedOf-twosOf, twosOf-signedOf, twosOf-lt, twosOf-pos}
-use Rattle.base.proofs.Parts.{length-part, bytes-part, length-pasted, pasted-nil, pasted-append}
-use Rattle.layout.specs.Layout.{Field, sizeOf, readAsSigned, valueOf, bytesFor, HeldBy, Holds, HoldsAll, readFrom, recordBytes, readAs, writtenFrom}
+use Rattle.base.proofs.Parts.{length-part, bytes-part}
+use Rattle.layout.specs.Layout.{Field, sizeOf, readAsSigned, valueOf, bytesFor, HeldBy, Holds, HoldsAll, readFrom, recordBytes, readAs}
 
 -- ---- one field
 
@@ -105,19 +105,6 @@ readAs-written fs make refusal vs after h =
 pub written-payload :
     (fs : List Field) (bs : List ℕ) → Bytes bs → length bs ≡ sizeOf fs → recordBytes fs (readFrom fs 0 bs) ≡ bs
 written-payload fs bs b e = written-read fs 0 bs b (omega arith) ∙ take-all (sizeOf fs) bs (omega arith)
-
--- ---- a writer that goes field by field leaves the record's bytes, and all beside them as it was
-pub written-fields :
-    (fs : List Field) (vs : List ℤ) (at : ℕ) (d : List ℕ) → at + sizeOf fs ≤ length d
-    → writtenFrom fs vs at d ≡ pasted d at (recordBytes fs vs)
-unfolding writtenFrom
-written-fields [] vs at d h = sym (pasted-nil d at)
-written-fields (f ∷ fs) [] at d h = sym (pasted-nil d at)
-written-fields (f ∷ fs) (v ∷ vs) at d h =
-    let b : List ℕ = bytesFor f v in
-    let w = length-bytesFor f v in
-    written-fields fs vs (at + f .width) (pasted d at b) (rw (length-pasted d at b (omega (arith, w))) (omega arith))
-    ∙ pasted-append d at (f .width) b (recordBytes fs vs) w (omega arith)
 
 -- ---- runs of one field
 

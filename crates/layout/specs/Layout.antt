@@ -10,7 +10,7 @@ use lib.ListN.{length}
 use lib.Signed.{mag}
 use Rattle.numbers.specs.BigEndian.{beOf, bytesOf}
 use Rattle.numbers.specs.TwosComplement.{signedOf, twosOf, InRange}
-use Rattle.base.specs.Parts.{part, pasted}
+use Rattle.base.specs.Parts.{part}
 
 -- a field is a number of so many bytes, highest byte first, signed or not
 pub record Field : Type 0 where
@@ -71,9 +71,3 @@ recordBytes (f ∷ fs) (v ∷ vs) = bytesFor f v ++ recordBytes fs vs
 -- a payload that holds the fields reads as what `make` makes of their numbers, and bytes behind them are ignored; a shorter one is refused
 abbrev pub readAs : {R : Type 0} → List Field → (List ℤ → R) → R → List ℕ → R
 readAs fs make refusal payload = cond (leb (sizeOf fs) (length payload)) (make (readFrom fs 0 payload)) refusal
-
--- what a writer that goes field by field leaves of d: each field's bytes at its place
-unfoldable pub writtenFrom : List Field → List ℤ → ℕ → List ℕ → List ℕ
-writtenFrom [] vs at d = d
-writtenFrom (f ∷ fs) [] at d = d
-writtenFrom (f ∷ fs) (v ∷ vs) at d = writtenFrom fs vs (at + f .width) (pasted d at (bytesFor f v))

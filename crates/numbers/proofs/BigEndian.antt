@@ -2,14 +2,14 @@
 use mathlib.Core.Path.{_≡_, refl, sym, ap, _∙_}
 use mathlib.Core.List.{List, [], _∷_, _++_}
 use Prim.Native.Nat.{ℕ, zero, suc, _+_, _-_, _*_, _/_, _%_, _^_, _≤_, _<_}
-use native.Mathlib.Nat.{pow-suc, pow-zero, one-le-pow, mul-assoc, mul-comm, mod-lt, mod-one, mod-eq-of-lt}
+use native.Mathlib.Nat.{lt-of-lt-of-le, pow-suc, pow-zero, pow-le-pow-right, one-le-pow, mul-assoc, mul-comm, mod-lt, mod-one, mod-eq-of-lt}
 use native.Mathlib.Numerals.{add-one}
 use native.Mathlib.Omega.{arith}
 use lib.Arith.{digits-lt, digits-div, digits-mod, mod-mul}
 use lib.Dec.{lit<}
-use lib.ListN.{length, length-append}
+use lib.ListN.{length, length-append, length-take}
 use Rattle.base.specs.Parts.{part}
-use Rattle.base.proofs.Parts.{length-part, bytes-part}
+use Rattle.base.proofs.Parts.{bytes-part}
 use lib.Pow.{pow-add}
 use Rattle.base.specs.Bytes.{Bytes}
 use Rattle.numbers.specs.BigEndian.{beOf, bytesOf}
@@ -83,6 +83,8 @@ bytesOf-beOf (b ∷ bs) h =
     ∙ ap (bytesOf w) (digits-mod b low) ∙ bytesOf-beOf bs (bytes-tail b bs h) in
     rw (head, tail)
 
--- a part of w bytes makes a number of w bytes
-pub beOf-part-lt : (s : List ℕ) (at w : ℕ) → Bytes s → at + w ≤ length s → beOf (part s at w) < 256 ^ w
-beOf-part-lt s at w b h = rw (length-part s at w h) at (beOf-lt (part s at w) (bytes-part s at w b))
+-- a part of w bytes makes a number of w bytes, and so does one that lacks some of them
+pub beOf-part-lt : (s : List ℕ) (at w : ℕ) → Bytes s → beOf (part s at w) < 256 ^ w
+beOf-part-lt s at w b =
+    let most : length (part s at w) ≤ w = simp length-take (omega arith) in
+    lt-of-lt-of-le (beOf-lt (part s at w) (bytes-part s at w b)) (pow-le-pow-right (lit< tt) most)

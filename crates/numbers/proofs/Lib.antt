@@ -1,3 +1,4 @@
+pub mod Width
 pub mod BigEndian
 pub mod TwosComplement
 pub mod Signs

@@ -6,7 +6,6 @@ use native.Mathlib.Nat.{pow-suc, mod-lt, mod-eq-of-lt, div-add-mod', div-lt-iff-
 use native.Mathlib.Omega.{arith}
 use lib.Arith.{digits-mod, comp-comp}
 use lib.IntN.{ℤ, pos, negsuc}
-use lib.ListN.{length}
 use mathlib.Core.Logic.{⊎-elim}
 use borrow.Author.Tests.{lt-ltb, le-ltb}
 use Rattle.base.specs.Bytes.{Bytes}
@@ -71,9 +70,8 @@ signedOf-range w n p h =
     signedOf-cases (λ z. InRange w z) w n (λ low. low) (λ high. omega (arith, halves w p))
 
 -- the signed number of w bytes is in range
-pub signed-part-range :
-    (s : List ℕ) (at w : ℕ) → 0 < w → Bytes s → at + w ≤ length s → InRange w (signedOf w (beOf (part s at w)))
-signed-part-range s at w p b h = signedOf-range w (beOf (part s at w)) p (beOf-part-lt s at w b h)
+pub signed-part-range : (s : List ℕ) (at w : ℕ) → 0 < w → Bytes s → InRange w (signedOf w (beOf (part s at w)))
+signed-part-range s at w p b = signedOf-range w (beOf (part s at w)) p (beOf-part-lt s at w b)
 
 -- the complement of m, in a multiple of c, by its lowest digit to the base c
 comp-mod : (M c m : ℕ) → 0 < c → m < M * c → (M * c - suc m) % c ≡ c - suc (m % c)

@@ -1,10 +1,12 @@
-// Numbers of 1 to 4 bytes in a slice, highest byte first. One reader and one writer serve every width.
+// Numbers of 1 to 4 bytes in a slice, highest byte first. One reader and one writer serve every width. Bytes that a slice lacks are not read, and a
+// number that has no room is not written at all.
 ghost use mathlib.Core.Path.{_≡_};
 ghost use Prim.Native.Nat.{_+_, _/_, _^_, _≤_, _<_};
 ghost use lib.ListN.{length};
+ghost use Rattle.numbers.specs.Width.{widthOf};
 ghost use Rattle.numbers.specs.BigEndian.{beOf, bytesOf};
 ghost use Rattle.numbers.specs.TwosComplement.{signedOf, twosOf};
-ghost use Rattle.base.specs.Parts.{part, pasted};
+ghost use Rattle.base.specs.Parts.{part, pasted, placed};
 
 fn wide(b: u8) -> u32
     ensures { λ r. ⌜ r ≡ b ⌝ }
@@ -12,8 +14,20 @@ fn wide(b: u8) -> u32
     b as u32
 }
 
-// The unsigned number of the `width` bytes from `at`.
-pub fn get(s: &[u8], at: usize, width: usize) -> u32
+// The width from 1 to 4 that is nearest.
+fn width_of(width: usize) -> usize
+    ensures { λ r. ⌜ r ≡ widthOf width ⌝ }
+{
+    if width < 1 {
+        return 1;
+    }
+    if 4 < width {
+        return 4;
+    }
+    width
+}
+
+fn read(s: &[u8], at: usize, width: usize) -> u32
     requires { ⌜ (width ≤ 4) × (at + width ≤ length (now s)) ⌝ }
     ensures { λ r. ⌜ r ≡ beOf (part (now (s .entry)) at width) ⌝ }
 {
@@ -26,36 +40,46 @@ pub fn get(s: &[u8], at: usize, width: usize) -> u32
     n
 }
 
+// The unsigned number of the `width` bytes from `at`, or of those that are there.
+pub fn get(s: &[u8], at: usize, width: usize) -> u32
+    ensures { λ r. ⌜ r ≡ beOf (part (now (s .entry)) at (widthOf width)) ⌝ }
+{
+    let whole = width_of(width);
+    if base::fits(s.len(), at, whole) {
+        return read(s, at, whole);
+    }
+    if s.len() < at {
+        return 0;
+    }
+    read(s, at, s.len() - at)
+}
+
 pub fn get_u8(s: &[u8], at: usize) -> u8
-    requires { ⌜ at + 1 ≤ length (now s) ⌝ }
     ensures { λ r. ⌜ r ≡ beOf (part (now (s .entry)) at 1) ⌝ }
 {
     get(s, at, 1) as u8
 }
 
 pub fn get_u16(s: &[u8], at: usize) -> u16
-    requires { ⌜ at + 2 ≤ length (now s) ⌝ }
     ensures { λ r. ⌜ r ≡ beOf (part (now (s .entry)) at 2) ⌝ }
 {
     get(s, at, 2) as u16
 }
 
 pub fn get_u24(s: &[u8], at: usize) -> u32
-    requires { ⌜ at + 3 ≤ length (now s) ⌝ }
     ensures { λ r. ⌜ r ≡ beOf (part (now (s .entry)) at 3) ⌝ }
 {
     get(s, at, 3)
 }
 
 pub fn get_u32(s: &[u8], at: usize) -> u32
-    requires { ⌜ at + 4 ≤ length (now s) ⌝ }
     ensures { λ r. ⌜ r ≡ beOf (part (now (s .entry)) at 4) ⌝ }
 {
     get(s, at, 4)
 }
 
-// Writes the low `width` bytes of `n` from `at`, from the last to the first.
-pub fn put(out: &mut [u8], at: usize, width: usize, n: u32)
+// From the last byte to the first.
+fn write(out: &mut [u8], at: usize, width: usize, n: u32)
     requires { ⌜ at + width ≤ length (now out) ⌝ }
     ensures { λ _. ⌜ now (out .exit) ≡ pasted (now (out .entry)) at (bytesOf width n) ⌝ }
 {
@@ -68,31 +92,37 @@ pub fn put(out: &mut [u8], at: usize, width: usize, n: u32)
     }
 }
 
+// Writes the low `width` bytes of `n` from `at`, where there is room for all of them.
+pub fn put(out: &mut [u8], at: usize, width: usize, n: u32)
+    ensures { λ _. ⌜ now (out .exit) ≡ placed (now (out .entry)) at (bytesOf (widthOf width) n) ⌝ }
+{
+    let whole = width_of(width);
+    if base::fits(out.len(), at, whole) {
+        write(out, at, whole, n);
+    }
+}
+
 pub fn put_u8(out: &mut [u8], at: usize, v: u8)
-    requires { ⌜ at + 1 ≤ length (now out) ⌝ }
-    ensures { λ _. ⌜ now (out .exit) ≡ pasted (now (out .entry)) at (bytesOf 1 v) ⌝ }
+    ensures { λ _. ⌜ now (out .exit) ≡ placed (now (out .entry)) at (bytesOf 1 v) ⌝ }
 {
     put(out, at, 1, v as u32);
 }
 
 pub fn put_u16(out: &mut [u8], at: usize, v: u16)
-    requires { ⌜ at + 2 ≤ length (now out) ⌝ }
-    ensures { λ _. ⌜ now (out .exit) ≡ pasted (now (out .entry)) at (bytesOf 2 v) ⌝ }
+    ensures { λ _. ⌜ now (out .exit) ≡ placed (now (out .entry)) at (bytesOf 2 v) ⌝ }
 {
     put(out, at, 2, v as u32);
 }
 
 // The low 24 bits of `v`.
 pub fn put_u24(out: &mut [u8], at: usize, v: u32)
-    requires { ⌜ at + 3 ≤ length (now out) ⌝ }
-    ensures { λ _. ⌜ now (out .exit) ≡ pasted (now (out .entry)) at (bytesOf 3 v) ⌝ }
+    ensures { λ _. ⌜ now (out .exit) ≡ placed (now (out .entry)) at (bytesOf 3 v) ⌝ }
 {
     put(out, at, 3, v);
 }
 
 pub fn put_u32(out: &mut [u8], at: usize, v: u32)
-    requires { ⌜ at + 4 ≤ length (now out) ⌝ }
-    ensures { λ _. ⌜ now (out .exit) ≡ pasted (now (out .entry)) at (bytesOf 4 v) ⌝ }
+    ensures { λ _. ⌜ now (out .exit) ≡ placed (now (out .entry)) at (bytesOf 4 v) ⌝ }
 {
     put(out, at, 4, v);
 }
@@ -123,37 +153,32 @@ fn signed(n: u32, width: usize) -> i32
     }
 }
 
-// The signed number of the `width` bytes from `at`.
+// The same number as `get`'s, with its sign.
 pub fn get_signed(s: &[u8], at: usize, width: usize) -> i32
-    requires { ⌜ (0 < width) × (width ≤ 4) × (at + width ≤ length (now s)) ⌝ }
-    ensures { λ r. ⌜ r ≡ signedOf width (beOf (part (now (s .entry)) at width)) ⌝ }
+    ensures { λ r. ⌜ r ≡ signedOf (widthOf width) (beOf (part (now (s .entry)) at (widthOf width))) ⌝ }
 {
-    signed(get(s, at, width), width)
+    signed(get(s, at, width), width_of(width))
 }
 
 pub fn get_i8(s: &[u8], at: usize) -> i8
-    requires { ⌜ at + 1 ≤ length (now s) ⌝ }
     ensures { λ r. ⌜ r ≡ signedOf 1 (beOf (part (now (s .entry)) at 1)) ⌝ }
 {
     get_signed(s, at, 1) as i8
 }
 
 pub fn get_i16(s: &[u8], at: usize) -> i16
-    requires { ⌜ at + 2 ≤ length (now s) ⌝ }
     ensures { λ r. ⌜ r ≡ signedOf 2 (beOf (part (now (s .entry)) at 2)) ⌝ }
 {
     get_signed(s, at, 2) as i16
 }
 
 pub fn get_i24(s: &[u8], at: usize) -> i32
-    requires { ⌜ at + 3 ≤ length (now s) ⌝ }
     ensures { λ r. ⌜ r ≡ signedOf 3 (beOf (part (now (s .entry)) at 3)) ⌝ }
 {
     get_signed(s, at, 3)
 }
 
 pub fn get_i32(s: &[u8], at: usize) -> i32
-    requires { ⌜ at + 4 ≤ length (now s) ⌝ }
     ensures { λ r. ⌜ r ≡ signedOf 4 (beOf (part (now (s .entry)) at 4)) ⌝ }
 {
     get_signed(s, at, 4)
@@ -170,39 +195,34 @@ fn bits(v: i32) -> u32
     }
 }
 
-// Writes the low `width` bytes of `v` in two's complement from `at`.
+// Writes the low `width` bytes of `v` in two's complement, as `put`.
 pub fn put_signed(out: &mut [u8], at: usize, width: usize, v: i32)
-    requires { ⌜ (width ≤ 4) × (at + width ≤ length (now out)) ⌝ }
-    ensures { λ _. ⌜ now (out .exit) ≡ pasted (now (out .entry)) at (bytesOf width (twosOf width v)) ⌝ }
+    ensures { λ _. ⌜ now (out .exit) ≡ placed (now (out .entry)) at (bytesOf (widthOf width) (twosOf (widthOf width) v)) ⌝ }
 {
     put(out, at, width, bits(v));
 }
 
 pub fn put_i8(out: &mut [u8], at: usize, v: i8)
-    requires { ⌜ at + 1 ≤ length (now out) ⌝ }
-    ensures { λ _. ⌜ now (out .exit) ≡ pasted (now (out .entry)) at (bytesOf 1 (twosOf 1 v)) ⌝ }
+    ensures { λ _. ⌜ now (out .exit) ≡ placed (now (out .entry)) at (bytesOf 1 (twosOf 1 v)) ⌝ }
 {
     put_signed(out, at, 1, v as i32);
 }
 
 pub fn put_i16(out: &mut [u8], at: usize, v: i16)
-    requires { ⌜ at + 2 ≤ length (now out) ⌝ }
-    ensures { λ _. ⌜ now (out .exit) ≡ pasted (now (out .entry)) at (bytesOf 2 (twosOf 2 v)) ⌝ }
+    ensures { λ _. ⌜ now (out .exit) ≡ placed (now (out .entry)) at (bytesOf 2 (twosOf 2 v)) ⌝ }
 {
     put_signed(out, at, 2, v as i32);
 }
 
 // The low 24 bits of `v`.
 pub fn put_i24(out: &mut [u8], at: usize, v: i32)
-    requires { ⌜ at + 3 ≤ length (now out) ⌝ }
-    ensures { λ _. ⌜ now (out .exit) ≡ pasted (now (out .entry)) at (bytesOf 3 (twosOf 3 v)) ⌝ }
+    ensures { λ _. ⌜ now (out .exit) ≡ placed (now (out .entry)) at (bytesOf 3 (twosOf 3 v)) ⌝ }
 {
     put_signed(out, at, 3, v);
 }
 
 pub fn put_i32(out: &mut [u8], at: usize, v: i32)
-    requires { ⌜ at + 4 ≤ length (now out) ⌝ }
-    ensures { λ _. ⌜ now (out .exit) ≡ pasted (now (out .entry)) at (bytesOf 4 (twosOf 4 v)) ⌝ }
+    ensures { λ _. ⌜ now (out .exit) ≡ placed (now (out .entry)) at (bytesOf 4 (twosOf 4 v)) ⌝ }
 {
     put_signed(out, at, 4, v);
 }

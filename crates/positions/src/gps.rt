@@ -65,8 +65,8 @@ impl Gps {
         if payload.len() < Self::MIN_PAYLOAD_SIZE {
             return GpsRead::InvalidPayloadLength;
         }
-        let latitude = numbers::get_signed(payload, 0, 4);
-        let longitude = numbers::get_signed(payload, 4, 4);
+        let latitude = numbers::get_i32(payload, 0);
+        let longitude = numbers::get_i32(payload, 4);
         let groundspeed = numbers::get_u16(payload, 8);
         let heading = numbers::get_u16(payload, 10);
         let altitude = numbers::get_u16(payload, 12);
@@ -87,8 +87,8 @@ impl Gps {
         if buffer.len() < Self::MIN_PAYLOAD_SIZE {
             return Written::BufferOverflow;
         }
-        numbers::put_signed(buffer, 0, 4, self.latitude);
-        numbers::put_signed(buffer, 4, 4, self.longitude);
+        numbers::put_i32(buffer, 0, self.latitude);
+        numbers::put_i32(buffer, 4, self.longitude);
         numbers::put_u16(buffer, 8, self.groundspeed);
         numbers::put_u16(buffer, 10, self.heading);
         numbers::put_u16(buffer, 12, self.altitude);

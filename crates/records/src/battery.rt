@@ -54,7 +54,7 @@ impl Battery {
         }
         let voltage = numbers::get_i16(payload, 0);
         let current = numbers::get_i16(payload, 2);
-        let capacity_used = numbers::get(payload, 4, 3);
+        let capacity_used = numbers::get_u24(payload, 4);
         let remaining = numbers::get_u8(payload, 7);
         if payload.len() < 9 {
             return BatteryRead::Record(Battery {
@@ -82,7 +82,7 @@ impl Battery {
     {
         numbers::put_i16(buffer, 0, self.voltage);
         numbers::put_i16(buffer, 2, self.current);
-        numbers::put(buffer, 4, 3, self.capacity_used);
+        numbers::put_u24(buffer, 4, self.capacity_used);
         numbers::put_u8(buffer, 7, self.remaining);
     }
 

@@ -1,10 +1,10 @@
 // Addresses, headers of packet types, check bytes, altitudes.
 use crate::case::Case;
 use crate::case::bytes_of;
-use crate::fields::i32_at;
-use crate::fields::u16_at;
 use altitude::Decimetres;
 use base::byte_at;
+use numbers::get_i32;
+use numbers::get_u16;
 use packets::Header;
 
 fn header_number(header: Header) -> u8 {
@@ -31,12 +31,12 @@ fn answer(kind: u8, bytes: &[u8]) -> u8 {
 }
 
 fn packs(d: i32, expected: &[u8]) -> bool {
-    altitude::pack_altitude(Decimetres(d)) == u16_at(expected, 0)
+    altitude::pack_altitude(Decimetres(d)) == get_u16(expected, 0)
 }
 
 fn unpacks(packed: u16, expected: &[u8]) -> bool {
     let d = altitude::baro_altitude(packed);
-    d.0 == i32_at(expected, 0)
+    d.0 == get_i32(expected, 0)
 }
 
 pub fn answers(page: &[u8], c: Case) -> bool {
@@ -46,10 +46,10 @@ pub fn answers(page: &[u8], c: Case) -> bool {
     let expected = bytes_of(page, part);
     let kind = c.kind;
     if kind == 6 {
-        return packs(i32_at(bytes, 0), expected);
+        return packs(get_i32(bytes, 0), expected);
     }
     if kind == 7 {
-        return unpacks(u16_at(bytes, 0), expected);
+        return unpacks(get_u16(bytes, 0), expected);
     }
     answer(kind, bytes) == byte_at(expected, 0)
 }

@@ -1,14 +1,14 @@
-// Records read from payloads: the refusal, or every field.
+// Records read from payloads: the refusal, or every field. A field of a case has 4 bytes, highest first, and a narrow one is the last of them.
 use crate::case::Case;
 use crate::case::bytes_of;
-use crate::fields::i8_at;
-use crate::fields::i16_at;
-use crate::fields::i32_at;
-use crate::fields::u16_at;
-use crate::fields::u32_at;
 use base::byte_at;
 use channels::RcChannelsPacked;
 use layout::ReadAnswer;
+use numbers::get_i8;
+use numbers::get_i16;
+use numbers::get_i32;
+use numbers::get_u16;
+use numbers::get_u32;
 use positions::gps::Gps;
 use positions::gps::GpsRead;
 use positions::gps_extended::GpsExtended;
@@ -25,13 +25,13 @@ fn is_link_statistics(r: LinkStatistics, f: &[u8]) -> bool {
     r.uplink_rssi_1 == byte_at(f, 3)
         && r.uplink_rssi_2 == byte_at(f, 7)
         && r.uplink_link_quality == byte_at(f, 11)
-        && r.uplink_snr == i8_at(f, 15)
+        && r.uplink_snr == get_i8(f, 15)
         && r.active_antenna == byte_at(f, 19)
         && r.rf_mode == byte_at(f, 23)
         && r.uplink_tx_power == byte_at(f, 27)
         && r.downlink_rssi == byte_at(f, 31)
         && r.downlink_link_quality == byte_at(f, 35)
-        && r.downlink_snr == i8_at(f, 39)
+        && r.downlink_snr == get_i8(f, 39)
 }
 
 fn link_statistics(payload: &[u8], number: u8, f: &[u8]) -> bool {
@@ -42,11 +42,11 @@ fn link_statistics(payload: &[u8], number: u8, f: &[u8]) -> bool {
 }
 
 fn is_gps(r: Gps, f: &[u8]) -> bool {
-    r.latitude == i32_at(f, 0)
-        && r.longitude == i32_at(f, 4)
-        && r.groundspeed == u16_at(f, 10)
-        && r.heading == u16_at(f, 14)
-        && r.altitude == u16_at(f, 18)
+    r.latitude == get_i32(f, 0)
+        && r.longitude == get_i32(f, 4)
+        && r.groundspeed == get_u16(f, 10)
+        && r.heading == get_u16(f, 14)
+        && r.altitude == get_u16(f, 18)
         && r.satellites == byte_at(f, 23)
 }
 
@@ -59,14 +59,14 @@ fn gps(payload: &[u8], number: u8, f: &[u8]) -> bool {
 
 fn is_gps_extended(r: GpsExtended, f: &[u8]) -> bool {
     r.fix_type == byte_at(f, 3)
-        && r.n_speed == i16_at(f, 6)
-        && r.e_speed == i16_at(f, 10)
-        && r.v_speed == i16_at(f, 14)
-        && r.h_speed_acc == i16_at(f, 18)
-        && r.track_acc == i16_at(f, 22)
-        && r.alt_ellipsoid == i16_at(f, 26)
-        && r.h_acc == i16_at(f, 30)
-        && r.v_acc == i16_at(f, 34)
+        && r.n_speed == get_i16(f, 6)
+        && r.e_speed == get_i16(f, 10)
+        && r.v_speed == get_i16(f, 14)
+        && r.h_speed_acc == get_i16(f, 18)
+        && r.track_acc == get_i16(f, 22)
+        && r.alt_ellipsoid == get_i16(f, 26)
+        && r.h_acc == get_i16(f, 30)
+        && r.v_acc == get_i16(f, 34)
         && r.reserved == byte_at(f, 39)
         && r.h_dop == byte_at(f, 43)
         && r.v_dop == byte_at(f, 47)
@@ -80,9 +80,9 @@ fn gps_extended(payload: &[u8], number: u8, f: &[u8]) -> bool {
 }
 
 fn is_battery(r: Battery, f: &[u8]) -> bool {
-    r.voltage == i16_at(f, 2)
-        && r.current == i16_at(f, 6)
-        && r.capacity_used == u32_at(f, 8)
+    r.voltage == get_i16(f, 2)
+        && r.current == get_i16(f, 6)
+        && r.capacity_used == get_u32(f, 8)
         && r.remaining == byte_at(f, 15)
         && r.id == byte_at(f, 19)
 }
@@ -95,7 +95,7 @@ fn battery(payload: &[u8], number: u8, f: &[u8]) -> bool {
 }
 
 fn is_baro_altitude(r: BaroAltitude, f: &[u8]) -> bool {
-    r.altitude_packed == u16_at(f, 2) && r.vertical_speed_packed == i8_at(f, 7)
+    r.altitude_packed == get_u16(f, 2) && r.vertical_speed_packed == get_i8(f, 7)
 }
 
 fn baro_altitude(payload: &[u8], number: u8, f: &[u8]) -> bool {
@@ -109,7 +109,7 @@ fn are_channels(channels: &[u16], f: &[u8]) -> bool {
     let mut i = 0;
     while i < 16 {
         if i < channels.len() {
-            if channels[i] != u16_at(f, 4 * i + 2) {
+            if channels[i] != get_u16(f, 4 * i + 2) {
                 return false;
             }
         }
@@ -134,7 +134,7 @@ fn are_values(values: &[i32], f: &[u8]) -> bool {
     let mut i = 0;
     while i < 19 {
         if i < values.len() {
-            if values[i] != i32_at(f, 4 * i) {
+            if values[i] != get_i32(f, 4 * i) {
                 return false;
             }
         }

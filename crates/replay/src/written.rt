@@ -1,17 +1,18 @@
-// Records written as frames: the refusal or the count, and the whole buffer afterwards.
+// Records written as frames: the refusal or the count, and the whole buffer afterwards. A field of a case has 4 bytes, highest first, and a narrow one is
+// the last of them; what is not there reads as 0.
 use crate::case::Case;
 use crate::case::Expected;
 use crate::case::bytes_of;
-use crate::fields::i8_at;
-use crate::fields::i16_at;
-use crate::fields::i32_at;
-use crate::fields::u16_at;
-use crate::fields::u32_at;
 use base::byte_at;
 use base::wide;
 use channels::RcChannelsPacked;
 use layout::ReadAnswer;
 use layout::Written;
+use numbers::get_i8;
+use numbers::get_i16;
+use numbers::get_i32;
+use numbers::get_u16;
+use numbers::get_u32;
 use positions::gps::Gps;
 use positions::gps_extended::GpsExtended;
 use records::baro_altitude::BaroAltitude;
@@ -24,46 +25,46 @@ fn link_statistics(buffer: &mut [u8], dest: u8, f: &[u8]) -> Written {
         uplink_rssi_1: byte_at(f, 3),
         uplink_rssi_2: byte_at(f, 7),
         uplink_link_quality: byte_at(f, 11),
-        uplink_snr: i8_at(f, 15),
+        uplink_snr: get_i8(f, 15),
         active_antenna: byte_at(f, 19),
         rf_mode: byte_at(f, 23),
         uplink_tx_power: byte_at(f, 27),
         downlink_rssi: byte_at(f, 31),
         downlink_link_quality: byte_at(f, 35),
-        downlink_snr: i8_at(f, 39),
+        downlink_snr: get_i8(f, 39),
     };
     frames::write_link_statistics(buffer, dest, r)
 }
 
 fn channels(buffer: &mut [u8], dest: u8, f: &[u8]) -> Written {
     let r = RcChannelsPacked([
-        u16_at(f, 2),
-        u16_at(f, 6),
-        u16_at(f, 10),
-        u16_at(f, 14),
-        u16_at(f, 18),
-        u16_at(f, 22),
-        u16_at(f, 26),
-        u16_at(f, 30),
-        u16_at(f, 34),
-        u16_at(f, 38),
-        u16_at(f, 42),
-        u16_at(f, 46),
-        u16_at(f, 50),
-        u16_at(f, 54),
-        u16_at(f, 58),
-        u16_at(f, 62),
+        get_u16(f, 2),
+        get_u16(f, 6),
+        get_u16(f, 10),
+        get_u16(f, 14),
+        get_u16(f, 18),
+        get_u16(f, 22),
+        get_u16(f, 26),
+        get_u16(f, 30),
+        get_u16(f, 34),
+        get_u16(f, 38),
+        get_u16(f, 42),
+        get_u16(f, 46),
+        get_u16(f, 50),
+        get_u16(f, 54),
+        get_u16(f, 58),
+        get_u16(f, 62),
     ]);
     frames::write_rc_channels_packed(buffer, dest, r)
 }
 
 fn gps(buffer: &mut [u8], dest: u8, f: &[u8]) -> Written {
     let r = Gps {
-        latitude: i32_at(f, 0),
-        longitude: i32_at(f, 4),
-        groundspeed: u16_at(f, 10),
-        heading: u16_at(f, 14),
-        altitude: u16_at(f, 18),
+        latitude: get_i32(f, 0),
+        longitude: get_i32(f, 4),
+        groundspeed: get_u16(f, 10),
+        heading: get_u16(f, 14),
+        altitude: get_u16(f, 18),
         satellites: byte_at(f, 23),
     };
     frames::write_gps(buffer, dest, r)
@@ -72,14 +73,14 @@ fn gps(buffer: &mut [u8], dest: u8, f: &[u8]) -> Written {
 fn gps_extended(buffer: &mut [u8], dest: u8, f: &[u8]) -> Written {
     let r = GpsExtended {
         fix_type: byte_at(f, 3),
-        n_speed: i16_at(f, 6),
-        e_speed: i16_at(f, 10),
-        v_speed: i16_at(f, 14),
-        h_speed_acc: i16_at(f, 18),
-        track_acc: i16_at(f, 22),
-        alt_ellipsoid: i16_at(f, 26),
-        h_acc: i16_at(f, 30),
-        v_acc: i16_at(f, 34),
+        n_speed: get_i16(f, 6),
+        e_speed: get_i16(f, 10),
+        v_speed: get_i16(f, 14),
+        h_speed_acc: get_i16(f, 18),
+        track_acc: get_i16(f, 22),
+        alt_ellipsoid: get_i16(f, 26),
+        h_acc: get_i16(f, 30),
+        v_acc: get_i16(f, 34),
         reserved: byte_at(f, 39),
         h_dop: byte_at(f, 43),
         v_dop: byte_at(f, 47),
@@ -89,9 +90,9 @@ fn gps_extended(buffer: &mut [u8], dest: u8, f: &[u8]) -> Written {
 
 fn battery(buffer: &mut [u8], dest: u8, f: &[u8]) -> Written {
     let r = Battery {
-        voltage: i16_at(f, 2),
-        current: i16_at(f, 6),
-        capacity_used: u32_at(f, 8),
+        voltage: get_i16(f, 2),
+        current: get_i16(f, 6),
+        capacity_used: get_u32(f, 8),
         remaining: byte_at(f, 15),
         id: byte_at(f, 19),
     };
@@ -100,8 +101,8 @@ fn battery(buffer: &mut [u8], dest: u8, f: &[u8]) -> Written {
 
 fn baro_altitude(buffer: &mut [u8], dest: u8, f: &[u8]) -> Written {
     let r = BaroAltitude {
-        altitude_packed: u16_at(f, 2),
-        vertical_speed_packed: i8_at(f, 7),
+        altitude_packed: get_u16(f, 2),
+        vertical_speed_packed: get_i8(f, 7),
     };
     frames::write_baro_altitude(buffer, dest, r)
 }
@@ -116,25 +117,25 @@ fn first(values: &[i32], count: usize) -> &[i32] {
 // A record that can't be made is not written; its destination is looked at first all the same.
 fn rpm(buffer: &mut [u8], dest: u8, f: &[u8]) -> Written {
     let values = [
-        i32_at(f, 4),
-        i32_at(f, 8),
-        i32_at(f, 12),
-        i32_at(f, 16),
-        i32_at(f, 20),
-        i32_at(f, 24),
-        i32_at(f, 28),
-        i32_at(f, 32),
-        i32_at(f, 36),
-        i32_at(f, 40),
-        i32_at(f, 44),
-        i32_at(f, 48),
-        i32_at(f, 52),
-        i32_at(f, 56),
-        i32_at(f, 60),
-        i32_at(f, 64),
-        i32_at(f, 68),
-        i32_at(f, 72),
-        i32_at(f, 76),
+        get_i32(f, 4),
+        get_i32(f, 8),
+        get_i32(f, 12),
+        get_i32(f, 16),
+        get_i32(f, 20),
+        get_i32(f, 24),
+        get_i32(f, 28),
+        get_i32(f, 32),
+        get_i32(f, 36),
+        get_i32(f, 40),
+        get_i32(f, 44),
+        get_i32(f, 48),
+        get_i32(f, 52),
+        get_i32(f, 56),
+        get_i32(f, 60),
+        get_i32(f, 64),
+        get_i32(f, 68),
+        get_i32(f, 72),
+        get_i32(f, 76),
     ];
     if !packets::is_address(dest) {
         return Written::BadAddress;

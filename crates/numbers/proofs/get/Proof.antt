@@ -1,93 +1,72 @@
--- `numbers::get` meets its contract. The loop's invariant: n is the number of the bytes passed. The measure is what is left of the width. Assumes nothing.
-use Prim.Native.Nat.{_+_, _-_, _^_, _≤_, _<_}
-use mathlib.Core.Path.{_≡_, refl}
-use native.Mathlib.Nat.{lt-of-lt-of-le, pow-le-pow-right}
-use lib.Dec.{lit<}
+-- `numbers::get` meets its contract: all the bytes are there and are read, or those up to the slice's end. Assumes nothing.
+use mathlib.Core.Path.{_≡_, sym, ap, _∙_}
+use mathlib.Core.List.{List}
+use Prim.Native.Nat.{ℕ, _+_, _-_, _≤_, _<_}
 use native.Mathlib.Omega.{arith}
-use Rattle.base.specs.Bytes.{Bytes}
-use Rattle.numbers.specs.BigEndian.{beOf}
+use borrow.Author.Needs.{needs}
+use borrow.Author.Tests.{leb-true, leb-false}
+use lib.ListN.{length, drop, length-drop, drop-of-length-le}
+use lib.Seq.{take-all, take-nil}
 use Rattle.base.specs.Parts.{part}
-use Rattle.numbers.proofs.BigEndian.{beOf-snoc}
-use Rattle.base.proofs.Parts.{part-snoc}
-use Rattle.numbers.proofs.BigEndian.{beOf-part-lt}
+use Rattle.numbers.specs.Width.{widthOf}
+use Rattle.numbers.specs.BigEndian.{beOf}
 use Rattle.numbers.proofs.get.Statement.{statement}
 use Rattle.numbers.proofs.get.Tie as tie
 
-abbrev Inv-loop : tie.InvT-loop
-Inv-loop s at width n₀ i₀ n i = (i ≤ width) × (n ≡ beOf (part s at i))
+-- a part that goes past the end is what stands up to the end
+part-short : (s : List ℕ) (at w : ℕ) → length s ≤ at + w → part s at (length s - at) ≡ part s at w
+part-short s at w h =
+    take-all (length s - at) (drop at s) (rw length-drop (omega arith)) ∙ sym (take-all w (drop at s) (rw length-drop (omega arith)))
 
-abbrev μ-loop : tie.MeasureT-loop
-μ-loop s at width n₀ i₀ n i = width - i
+-- what the test says
+there : (c : tie.Then1) → let tested = c .before in let a = tested .before .before .before .args in a .at + tested .before .width-of .result ≤ length (a .s .now)
+there c = leb-true _ _ (sym (c .before .fits2 .ensures) ∙ c .if1 .taken)
 
-loop-holds : tie.Need-loop-holds Inv-loop μ-loop
-unfolding beOf
-loop-holds c = (omega arith, refl)
+short : (c : tie.Else1) → let tested = c .before in let a = tested .before .before .before .args in length (a .s .now) < a .at + tested .before .width-of .result
+short c = leb-false _ _ (sym (c .before .fits2 .ensures) ∙ c .if1 .left)
 
--- the bytes that a turn has read leave room for one more
-room : (c : tie.In-loop Inv-loop μ-loop) → c .before .loop .n < 256 ^ 3
-room c =
-    let start = c .before .before .before in
-    let l = c .before .loop in
-    let bytes : Bytes (start .args .s .now) = λ i. c .before .before .shared-slice-known .given i .fits in
-    let here = beOf-part-lt (start .args .s .now) (start .args .at) (l .i) bytes (omega arith) in
-    let most : l .i ≤ 3 = omega arith in
-    rw (l .inv .1) (lt-of-lt-of-le here (pow-le-pow-right (lit< tt) most))
+width-of-requires : tie.Need-width-of-requires
+width-of-requires c κs = search needs
 
-mul-n : tie.Need-mul-n Inv-loop μ-loop
-mul-n c = record { fits = omega (arith, room c) }
+fits-requires : tie.Need-fits-requires
+fits-requires c κs = search needs
 
-add-wide : tie.Need-add-wide Inv-loop μ-loop
-add-wide c = omega arith
+read-requires : tie.Need-read-requires
+read-requires c κs = (omega arith, omega (arith, there c))
 
-shared-slice-read-wide : tie.Need-shared-slice-read-wide Inv-loop μ-loop
-shared-slice-read-wide c = omega arith
-
-wide-requires : tie.Need-wide-requires Inv-loop μ-loop
-wide-requires c κs = tt
-
-add-n : tie.Need-add-n Inv-loop μ-loop
-add-n c =
-    record {
-      fits = omega (
-        arith,
-        room (c .before .before),
-        c .wide .ensures,
-        c .before .shared-slice-known2 .given (c .before .before .before .before .before .args .at + c .before .before .before .loop .i),
-      );
-    }
-
-add-i : tie.Need-add-i Inv-loop μ-loop
-add-i c = omega arith
-
-loop-less : tie.Need-loop-less Inv-loop μ-loop
-loop-less c = omega arith
-
-loop-again : tie.Need-loop-again Inv-loop μ-loop
-loop-again c =
-    let start = c .before .before .before .before .before .args in
-    let l = c .before .before .before .loop in (
-      omega arith,
-      rw (part-snoc (start .s .now) (start .at) (l .i) (omega arith), beOf-snoc, ← l .inv .1, c .wide .ensures),
-    )
-
-returns : tie.Need-returns Inv-loop μ-loop
+returns : tie.Need-returns
 returns c =
-    let all : c .before .loop .i ≡ c .before .before .before .args .width = omega arith in
-    rw (← all) (c .before .loop .inv .1)
+    let a = c .before .before .before .before .before .args in
+    c .read .ensures ∙ ap (λ (w : ℕ). beOf (part (a .s .now) (a .at) w)) (c .before .before .before .width-of .ensures)
+
+returns-2 : tie.Need-returns-2
+unfolding beOf
+returns-2 c =
+    let a = c .before .before .before .before .before .args in
+    let past : length (a .s .now) ≤ a .at = omega arith in
+    rw (drop-of-length-le (a .s .now) past, take-nil)
+
+sub-read : tie.Need-sub-read
+sub-read c = search needs
+
+read-requires-2 : tie.Need-read-requires-2
+read-requires-2 c κs = (omega (arith, short (c .before)), omega arith)
+
+returns-3 : tie.Need-returns-3
+returns-3 c =
+    let tested = c .before .before in
+    let a = tested .before .before .before .before .args in
+    c .read2 .ensures ∙ ap beOf (part-short (a .s .now) (a .at) (widthOf (a .width)) (omega (arith, short tested)))
 
 pub get-spec : {M : Type 1} → statement M
 get-spec =
     tie.close
     (tie.spec
-    Inv-loop
-    μ-loop
-    loop-holds
-    mul-n
-    add-wide
-    shared-slice-read-wide
-    wide-requires
-    add-n
-    add-i
-    loop-less
-    loop-again
-    returns)
+    width-of-requires
+    fits-requires
+    read-requires
+    returns
+    returns-2
+    sub-read
+    read-requires-2
+    returns-3)

@@ -18,7 +18,7 @@ read c = record { sfits = c .get-signed .ok }
 fits : (c : tie.After-get-signed) → SFits w8 (c .get-signed .result)
 fits c =
     fits-part w8 1 _ (c .before .before .args .at) (lit< tt) refl
-    (λ i. c .before .shared-slice-known .given i .fits) (c .before .before .pre) (c .get-signed .ensures)
+    (λ i. c .before .shared-slice-known .given i .fits) (c .get-signed .ensures)
 
 cast-result : tie.Need-cast-result
 cast-result c = rw (toZ-ofZ w32 (c .get-signed .result) (read c)) (fits c)

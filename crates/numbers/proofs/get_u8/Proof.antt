@@ -12,7 +12,7 @@ cast-result : tie.Need-cast-result
 cast-result c =
     let start = c .before .before in
     let bytes : Bytes (start .args .s .now) = λ i. c .before .shared-slice-known .given i .fits in
-    rw (c .get .ensures) (record { fits = beOf-part-lt (start .args .s .now) (start .args .at) 1 bytes (start .pre) })
+    rw (c .get .ensures) (record { fits = beOf-part-lt (start .args .s .now) (start .args .at) 1 bytes })
 
 returns : tie.Need-returns
 returns c = search needs

@@ -1,78 +1,56 @@
--- `numbers::put` meets its contract. The loop's invariant: the low bytes are written behind the place that is next, and `rest` is what they leave of n. Assumes nothing.
-use Prim.Native.Nat.{ℕ, suc, _+_, _-_, _/_, _^_, _≤_}
-use mathlib.Core.Path.{_≡_, refl, sym}
-use native.Mathlib.Nat.{add-zero, sub-zero, pow-zero, pow-suc, div-one, div-div-eq-div-mul}
-use native.Mathlib.Omega.{arith}
-use lib.ListN.{length, length-set}
+-- `numbers::put` meets its contract: there is room for all the bytes, or nothing is written. Assumes nothing.
+use mathlib.Core.Path.{_≡_, sym, ap, _∙_}
+use mathlib.Core.Bool.{false}
+use Prim.Native.Nat.{ℕ, _+_, _≤_}
+use borrow.Author.Needs.{needs}
+use borrow.Author.Tests.{leb-true}
+use lib.Dec.{leb}
+use lib.ListN.{length}
+use Rattle.base.specs.Parts.{placed}
+use Rattle.base.proofs.Parts.{placed-fits}
+use Rattle.numbers.specs.Width.{widthOf}
 use Rattle.numbers.specs.BigEndian.{bytesOf}
-use Rattle.base.specs.Parts.{pasted}
-use Rattle.base.proofs.Parts.{pasted-nil, pasted-cons}
+use Rattle.numbers.proofs.BigEndian.{length-bytesOf}
 use Rattle.numbers.proofs.put.Statement.{statement}
 use Rattle.numbers.proofs.put.Tie as tie
 
-abbrev Inv-loop : tie.InvT-loop
-Inv-loop out₀ at width n rest₀ left₀ out rest left =
-    (left ≤ width) × (rest ≡ n / 256 ^ (width - left)) × (out ≡ pasted out₀ (at + left) (bytesOf (width - left) n)) × (length out ≡ length out₀)
+width-of-requires : tie.Need-width-of-requires
+width-of-requires c κs = search needs
 
-abbrev μ-loop : tie.MeasureT-loop
-μ-loop out₀ at width n rest₀ left₀ out rest left = left
+fits-requires : tie.Need-fits-requires
+fits-requires c κs = search needs
 
-loop-holds : tie.Need-loop-holds Inv-loop μ-loop
-unfolding bytesOf
-loop-holds c =
-    let none : c .args .width - c .args .width ≡ 0 = omega arith in
-    (omega arith, rw (none, pow-zero) (sym (div-one _)), rw none (sym (pasted-nil _ _)), refl)
+-- what the test says
+room : (c : tie.Then1) → let tested = c .before in let a = tested .before .before .before .args in a .at + tested .before .width-of .result ≤ length (a .out .now)
+room c = leb-true _ _ (sym (c .before .fits2 .ensures) ∙ c .if1 .taken)
 
-sub-left : tie.Need-sub-left Inv-loop μ-loop
-sub-left c = omega arith
+write-requires : tie.Need-write-requires
+write-requires c κs = room (c .before)
 
-cast-out : tie.Need-cast-out Inv-loop μ-loop
-cast-out c = omega arith
+same-length : tie.Need-same-length
+same-length c = search needs
 
-add-out : tie.Need-add-out Inv-loop μ-loop
-add-out c = omega arith
-
-slice-write-out : tie.Need-slice-write-out Inv-loop μ-loop
-slice-write-out c = omega arith
-
-loop-less : tie.Need-loop-less Inv-loop μ-loop
-loop-less c = omega arith
-
-loop-again : tie.Need-loop-again Inv-loop μ-loop
-unfolding bytesOf
-loop-again c =
-    let start = c .before .before .args in
-    let l = c .before .loop in
-    let k : ℕ = start .at + (l .left - 1) in
-    let m : ℕ = start .width - l .left in
-    let at-next : start .at + l .left ≡ suc k = omega arith in
-    let one-more : start .width - (l .left - 1) ≡ suc m = omega arith in (
-      omega arith,
-      rw (one-more, l .inv .1, pow-suc) (div-div-eq-div-mul (start .n) (256 ^ m) 256),
-      rw (one-more, l .inv .2, l .inv .1, at-next) (pasted-cons _ k _ (bytesOf m (start .n)) (omega arith)),
-      simp length-set (l .inv .3),
-    )
-
-same-length : tie.Need-same-length Inv-loop μ-loop
-same-length c = c .before .loop .inv .3
-
-returns : tie.Need-returns Inv-loop μ-loop
+returns : tie.Need-returns
 returns c =
-    let none : c .before .loop .left ≡ 0 = omega arith in
-    rw (c .before .loop .inv .2, none, add-zero, sub-zero)
+    let written = c .before .before in
+    let tested = written .before .before in
+    let measured = tested .before .before in
+    let a = measured .before .before .args in
+    let n : ℕ = a .n in
+    written .write .ensures
+    ∙ sym (placed-fits (a .out .now) (a .at) (bytesOf (measured .width-of .result) n) (rw length-bytesOf (room tested)))
+    ∙ ap (λ (w : ℕ). placed (a .out .now) (a .at) (bytesOf w n)) (measured .width-of .ensures)
+
+returns-2 : tie.Need-returns-2
+unfolding placed
+returns-2 c =
+    let tested = c .before in
+    let a = tested .before .before .before .args in
+    let none : leb (a .at + widthOf (a .width)) (length (a .out .now)) ≡ false =
+    rw (tested .before .width-of .ensures) at (sym (tested .fits2 .ensures) ∙ c .if1 .left) in
+    simp (length-bytesOf, none)
 
 pub put-spec : {M : Type 1} → statement M
 put-spec =
     tie.close
-    (tie.spec
-    Inv-loop
-    μ-loop
-    loop-holds
-    sub-left
-    cast-out
-    add-out
-    slice-write-out
-    loop-less
-    loop-again
-    same-length
-    returns)
+    (tie.spec width-of-requires fits-requires write-requires same-length returns returns-2)

@@ -19,14 +19,14 @@ mul-if2 c = search needs
 shared-slice-read-if2 : tie.Need-shared-slice-read-if2 Inv-loop μ-loop
 shared-slice-read-if2 c = search needs
 
-mul-u16-at : tie.Need-mul-u16-at Inv-loop μ-loop
-mul-u16-at c = search needs
+mul-get-u16 : tie.Need-mul-get-u16 Inv-loop μ-loop
+mul-get-u16 c = search needs
 
-add-u16-at : tie.Need-add-u16-at Inv-loop μ-loop
-add-u16-at c = search needs
+add-get-u16 : tie.Need-add-get-u16 Inv-loop μ-loop
+add-get-u16 c = search needs
 
-u16-at-requires : tie.Need-u16-at-requires Inv-loop μ-loop
-u16-at-requires c κs = search needs
+get-u16-requires : tie.Need-get-u16-requires Inv-loop μ-loop
+get-u16-requires c κs = search needs
 
 returns : tie.Need-returns Inv-loop μ-loop
 returns c = search needs
@@ -52,9 +52,9 @@ are-channels-spec =
     loop-holds
     mul-if2
     shared-slice-read-if2
-    mul-u16-at
-    add-u16-at
-    u16-at-requires
+    mul-get-u16
+    add-get-u16
+    get-u16-requires
     returns
     add-i
     loop-less

@@ -19,11 +19,11 @@ mul-if2 c = search needs
 shared-slice-copy-out-if2 : tie.Need-shared-slice-copy-out-if2 Inv-loop μ-loop
 shared-slice-copy-out-if2 c = search needs
 
-mul-i32-at : tie.Need-mul-i32-at Inv-loop μ-loop
-mul-i32-at c = search needs
+mul-get-i32 : tie.Need-mul-get-i32 Inv-loop μ-loop
+mul-get-i32 c = search needs
 
-i32-at-requires : tie.Need-i32-at-requires Inv-loop μ-loop
-i32-at-requires c κs = search needs
+get-i32-requires : tie.Need-get-i32-requires Inv-loop μ-loop
+get-i32-requires c κs = search needs
 
 returns : tie.Need-returns Inv-loop μ-loop
 returns c = search needs
@@ -49,8 +49,8 @@ are-values-spec =
     loop-holds
     mul-if2
     shared-slice-copy-out-if2
-    mul-i32-at
-    i32-at-requires
+    mul-get-i32
+    get-i32-requires
     returns
     add-i
     loop-less

@@ -10,11 +10,11 @@ returns : tie.Need-returns
 unfolding gpsAnswer
 returns c = refused gpsLayout (c .before .before .args .payload .now) (c .if1 .taken)
 
-get-signed-requires : tie.Need-get-signed-requires
-get-signed-requires c κs = search needs
+get-i32-requires : tie.Need-get-i32-requires
+get-i32-requires c κs = search needs
 
-get-signed-requires-2 : tie.Need-get-signed-requires-2
-get-signed-requires-2 c κs = search needs
+get-i32-requires-2 : tie.Need-get-i32-requires-2
+get-i32-requires-2 c κs = search needs
 
 get-u16-requires : tie.Need-get-u16-requires
 get-u16-requires c κs = search needs
@@ -38,15 +38,15 @@ returns-2 c =
     let latitude = longitude .before in
     let room = latitude .before in
     all-got gpsLayout (room .before .before .args .payload .now) tt (room .before .shared-slice-known .given) (room .if1 .left)
-    (rw (c .get-u8 .ensures, altitude .get-u163 .ensures, heading .get-u162 .ensures, groundspeed .get-u16 .ensures, longitude .get-signed2 .ensures, latitude .get-signed .ensures))
+    (rw (c .get-u8 .ensures, altitude .get-u163 .ensures, heading .get-u162 .ensures, groundspeed .get-u16 .ensures, longitude .get-i322 .ensures, latitude .get-i32 .ensures))
 
 pub from-bytes-spec : {M : Type 1} → statement M
 from-bytes-spec =
     tie.close
     (tie.spec
     returns
-    get-signed-requires
-    get-signed-requires-2
+    get-i32-requires
+    get-i32-requires-2
     get-u16-requires
     get-u16-requires-2
     get-u16-requires-3

@@ -15,11 +15,11 @@ returns : tie.Need-returns
 unfolding gpsValues
 returns c = no-room gpsLayout (gpsValues (c .before .before .args .self)) (lit≤ tt) (c .before .before .args .buffer .now) (c .if1 .taken)
 
-put-signed-requires : tie.Need-put-signed-requires
-put-signed-requires c κs = search needs
+put-i32-requires : tie.Need-put-i32-requires
+put-i32-requires c κs = search needs
 
-put-signed-requires-2 : tie.Need-put-signed-requires-2
-put-signed-requires-2 c κs = search needs
+put-i32-requires-2 : tie.Need-put-i32-requires-2
+put-i32-requires-2 c κs = search needs
 
 put-u16-requires : tie.Need-put-u16-requires
 put-u16-requires c κs = search needs
@@ -48,15 +48,15 @@ returns-2 c =
     let room = latitude .before .before .before in
     let start = room .before .before in
     wrote-all gpsLayout (gpsValues (start .args .self)) (lit≤ tt) (start .args .buffer .now) (room .if1 .left) (typed start)
-    (rw (satellites .put-u8 .ensures, altitude .put-u163 .ensures, heading .put-u162 .ensures, groundspeed .put-u16 .ensures, longitude .put-signed2 .ensures, latitude .put-signed .ensures))
+    (rw (satellites .put-u8 .ensures, altitude .put-u163 .ensures, heading .put-u162 .ensures, groundspeed .put-u16 .ensures, longitude .put-i322 .ensures, latitude .put-i32 .ensures))
 
 pub to-bytes-spec : {M : Type 1} → statement M
 to-bytes-spec =
     tie.close
     (tie.spec
     returns
-    put-signed-requires
-    put-signed-requires-2
+    put-i32-requires
+    put-i32-requires-2
     put-u16-requires
     put-u16-requires-2
     put-u16-requires-3

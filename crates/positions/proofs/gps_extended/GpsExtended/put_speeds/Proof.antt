@@ -1,22 +1,12 @@
 -- `positions::gps_extended::GpsExtended::put_speeds` meets its contract: its fields are written at their places of the layout.
 -- Assumes nothing.
 use native.Mathlib.Omega.{arith}
-use Prim.Native.Nat.{_≤_}
-use lib.ListN.{length, take}
+use lib.ListN.{take}
 use Rattle.positions.specs.GpsExtended.{gpsExtendedLayout, gpsExtendedValues}
 use Rattle.fields.proofs.Writers.{Typed, putFrom, put-fields}
 use borrow.Author.Needs.{needs}
 use Rattle.positions.proofs.gps_extended.GpsExtended.put_speeds.Statement.{statement}
 use Rattle.positions.proofs.gps_extended.GpsExtended.put_speeds.Tie as tie
-
--- four fields on, the buffer is as long as it was and has room for the others
-room : (c : tie.After-put-i163) → 20 ≤ length (c .put-i163 .last .0)
-room c =
-    let e-speed = c .before .before .before .before .before in
-    let n-speed = e-speed .before .before .before .before .before in
-    let fix-type = n-speed .before .before .before .before .before in
-    let start = fix-type .before .before .before in
-    rw (c .put-i163 .kept .0, e-speed .put-i162 .kept .0, n-speed .put-i16 .kept .0, fix-type .put-u8 .kept .0) (start .pre)
 
 put-u8-requires : tie.Need-put-u8-requires
 put-u8-requires c κs = search needs
@@ -31,12 +21,10 @@ put-i16-requires-3 : tie.Need-put-i16-requires-3
 put-i16-requires-3 c κs = search needs
 
 put-i16-requires-4 : tie.Need-put-i16-requires-4
-put-i16-requires-4 c κs = omega (arith, room (c .before .before .before .before))
+put-i16-requires-4 c κs = search needs
 
 put-i16-requires-5 : tie.Need-put-i16-requires-5
-put-i16-requires-5 c κs =
-    let h-speed-acc = c .before .before .before .before in
-    omega (arith, h-speed-acc .put-i164 .kept .0, room (h-speed-acc .before .before .before .before .before))
+put-i16-requires-5 c κs = search needs
 
 same-length : tie.Need-same-length
 same-length c =

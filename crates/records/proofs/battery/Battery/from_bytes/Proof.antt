@@ -1,6 +1,6 @@
 -- `records::battery::Battery::from_bytes` meets its contract: each field is read at its place of the layout.
 -- Assumes nothing.
-use mathlib.Core.Path.{ap, _∙_}
+use mathlib.Core.Path.{ap}
 use mathlib.Core.List.{List, [], _∷_, _++_}
 use native.Mathlib.Omega.{arith}
 use Prim.Native.Nat.{ℕ}
@@ -9,7 +9,7 @@ use lib.IntN.{ℤ, pos}
 use lib.ListN.{length, take}
 use Rattle.fields.specs.Answer.{read}
 use Rattle.records.specs.Battery.{batteryLayout, batteryValues, batteryAnswer, batteryRead}
-use Rattle.fields.proofs.Readers.{gotFrom, got, refused, all-got}
+use Rattle.fields.proofs.Readers.{gotFrom, got}
 use borrow.Author.Needs.{needs}
 use Rattle.records.proofs.battery.Battery.from_bytes.Statement.{statement}
 use Rattle.records.proofs.battery.Battery.from_bytes.Tie as tie
@@ -26,8 +26,8 @@ get-i16-requires c κs = search needs
 get-i16-requires-2 : tie.Need-get-i16-requires-2
 get-i16-requires-2 c κs = search needs
 
-get-requires : tie.Need-get-requires
-get-requires c κs = search needs
+get-u24-requires : tie.Need-get-u24-requires
+get-u24-requires c κs = search needs
 
 get-u8-requires : tie.Need-get-u8-requires
 get-u8-requires c κs = search needs
@@ -42,8 +42,8 @@ returns-2 c =
     let room = voltage .before in
     let payload : List ℕ = room .before .before .args .payload .now in
     simp (lt-leb 9 (length payload) (c .if2 .taken), le-leb 8 (length payload) (room .if1 .left))
-    (rw (remaining .get-u8 .ensures, capacity-used .get .ensures, current .get-i162 .ensures, voltage .get-i16 .ensures)
-    (ap (λ (vs : List ℤ). read (vs ++ (pos 0 ∷ []))) (got (take 4 batteryLayout) payload tt (room .before .shared-slice-known .given) (room .if1 .left))))
+    (rw (remaining .get-u8 .ensures, capacity-used .get-u24 .ensures, current .get-i162 .ensures, voltage .get-i16 .ensures)
+    (ap (λ (vs : List ℤ). read (vs ++ (pos 0 ∷ []))) (got (take 4 batteryLayout) payload tt (room .before .shared-slice-known .given))))
 
 get-u8-requires-2 : tie.Need-get-u8-requires-2
 get-u8-requires-2 c κs = search needs
@@ -59,8 +59,8 @@ returns-3 c =
     let room = voltage .before in
     let payload : List ℕ = room .before .before .args .payload .now in
     simp (le-leb 9 (length payload) (long .if2 .left))
-    (rw (c .get-u82 .ensures, remaining .get-u8 .ensures, capacity-used .get .ensures, current .get-i162 .ensures, voltage .get-i16 .ensures)
-    (ap read (got batteryLayout payload tt (room .before .shared-slice-known .given) (long .if2 .left))))
+    (rw (c .get-u82 .ensures, remaining .get-u8 .ensures, capacity-used .get-u24 .ensures, current .get-i162 .ensures, voltage .get-i16 .ensures)
+    (ap read (got batteryLayout payload tt (room .before .shared-slice-known .given))))
 
 pub from-bytes-spec : {M : Type 1} → statement M
 from-bytes-spec =
@@ -69,7 +69,7 @@ from-bytes-spec =
     returns
     get-i16-requires
     get-i16-requires-2
-    get-requires
+    get-u24-requires
     get-u8-requires
     returns-2
     get-u8-requires-2

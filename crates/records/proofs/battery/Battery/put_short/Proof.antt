@@ -14,8 +14,8 @@ put-i16-requires c κs = search needs
 put-i16-requires-2 : tie.Need-put-i16-requires-2
 put-i16-requires-2 c κs = search needs
 
-put-requires : tie.Need-put-requires
-put-requires c κs = search needs
+put-u24-requires : tie.Need-put-u24-requires
+put-u24-requires c κs = search needs
 
 put-u8-requires : tie.Need-put-u8-requires
 put-u8-requires c κs = search needs
@@ -36,9 +36,9 @@ returns c =
     let voltage = current .before .before .before .before .before in
     let start = voltage .before .before .before .before in
     put-fields (take 4 batteryLayout) (take 4 (batteryValues (start .args .self))) 0 (start .args .buffer .now) (omega (arith, start .pre)) (typed start)
-    (rw (remaining .put-u8 .ensures, capacity-used .put .ensures, current .put-i162 .ensures, voltage .put-i16 .ensures))
+    (rw (remaining .put-u8 .ensures, capacity-used .put-u24 .ensures, current .put-i162 .ensures, voltage .put-i16 .ensures))
 
 pub put-short-spec : {M : Type 1} → statement M
 put-short-spec =
     tie.close
-    (tie.spec put-i16-requires put-i16-requires-2 put-requires put-u8-requires same-length returns)
+    (tie.spec put-i16-requires put-i16-requires-2 put-u24-requires put-u8-requires same-length returns)

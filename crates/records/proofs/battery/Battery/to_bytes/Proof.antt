@@ -1,12 +1,12 @@
 -- `records::battery::Battery::to_bytes` meets its contract: the id goes behind the other fields, where there is one.
 -- Assumes nothing.
-use mathlib.Core.List.{append-nil}
+use mathlib.Core.Path.{refl}
+use native.Mathlib.Omega.{arith}
 use borrow.Author.Tests.{eq-eqb, ne-eqb}
 use lib.Dec.{lit≤}
-use lib.ListN.{take}
-use Rattle.numbers.proofs.TwosComplement.{bytesOf-natural}
+use lib.ListN.{take, drop}
 use Rattle.records.specs.Battery.{batteryLayout, batteryValues}
-use Rattle.fields.proofs.Writers.{no-room, wrote, wrote-in-two}
+use Rattle.fields.proofs.Writers.{putFrom, put-fields, no-room, wrote, wrote-in-two}
 use borrow.Author.Needs.{needs}
 use Rattle.records.proofs.battery.Battery.to_bytes.Statement.{statement}
 use Rattle.records.proofs.battery.Battery.to_bytes.Tie as tie
@@ -50,7 +50,7 @@ same-length-2 : tie.Need-same-length-2
 same-length-2 c = search needs
 
 returns-4 : tie.Need-returns-4
-unfolding batteryValues
+unfolding batteryValues putFrom
 returns-4 c =
     let id = c .before .before in
     let short = id .before .before .before .before in
@@ -58,7 +58,8 @@ returns-4 c =
     let start = room .before .before .before in
     simp (ne-eqb (start .args .self .id) 0 (room .before .if1 .left))
     (wrote-in-two batteryLayout (batteryValues (start .args .self)) (lit≤ tt) (start .args .buffer .now) 4 (room .if3 .left)
-    (short .put-short2 .ensures) (simp (bytesOf-natural, append-nil) (id .put-u8 .ensures)))
+    (short .put-short2 .ensures)
+    (put-fields (drop 4 batteryLayout) (drop 4 (batteryValues (start .args .self))) 8 _ (omega arith) (refl, tt) (id .put-u8 .ensures)))
 
 pub to-bytes-spec : {M : Type 1} → statement M
 to-bytes-spec =
