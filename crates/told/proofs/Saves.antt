@@ -1,4 +1,4 @@
--- The counts that a save, a restore and a reset tell fit a byte, and an entry's answer follows from what the function below it tells.
+-- The counts that a save, a restore and a reset tell fit a byte, so an entry's answer follows from what the function below it tells.
 -- Assumes nothing.
 use mathlib.Core.Path.{_≡_, refl, sym, ap, ap₂, _∙_, subst}
 use mathlib.Core.Bool.{true, false}
@@ -14,8 +14,9 @@ use Rattle.saved.specs.Form.{savedForm, isSavable, isForm, heldOf}
 use Rattle.saved.specs.Save.{Told, saveOf, saveLentOf, restoreLentOf, resetLentOf}
 use Rattle.saved.proofs.Forms.{length-form, savable}
 use Rattle.saved.proofs.Laws.{held-group}
-use Rattle.told.specs.Answer.{packed, toldCount, toldRefusal}
+use Rattle.told.specs.Answer.{packed, toldCount, toldRefusal, inBytes}
 use Rattle.told.specs.State.{toldState, tells, heldCount}
+use Rattle.told.proofs.Fits.{in-bytes}
 
 form-short : (places : List ℕ) (start end : ℕ) → isSavable (length places) start end ≡ true → length (savedForm (heldIn places start end)) < 256
 form-short places start end t =
@@ -55,11 +56,10 @@ unfolding resetLentOf
 reset-fits state = by-test (eqb (length state) 66) (λ t. simp t (lit< tt)) (λ t. simp t (lit< tt))
 
 module _ {t : Told} {b : List ℕ} {x : Told × List ℕ} (e : (t, b) ≡ x) where
-  pub told-fits : x .0 .count < 256 → t .count < 256
-  told-fits h = rw (ap (λ (y : Told × List ℕ). y .0) e) h
-
-  pub told-on : {r : ℕ} → r ≡ packed (toldState t) → (r, b) ≡ tells x
-  told-on p = ap (λ (n : ℕ). (n, b)) p ∙ ap tells e
+  pub told-on : {r : ℕ} → x .0 .count < 256 → r ≡ packed (inBytes (toldState t)) → (r, b) ≡ tells x
+  told-on few p =
+      let fits : t .count < 256 = rw (ap (λ (y : Told × List ℕ). y .0) e) few in
+      ap (λ (n : ℕ). (n, b)) (p ∙ ap packed (in-bytes (toldState t) (omega arith))) ∙ ap tells e
 
 -- ---- The count of held bytes, by the tests on the way
 
