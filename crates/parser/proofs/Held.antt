@@ -17,10 +17,6 @@ use Rattle.parser.specs.declared.CrsfParser.{CrsfParser}
 use Rattle.parser.specs.declared.Stepped.{Stepped}
 use Rattle.parser.specs.Parser.{empty, resetOf, heldBy, heldCount, isState, movedTo, Nexts}
 
-pub empty-state : isState empty ≡ true
-unfolding empty
-empty-state = refl
-
 pub empty-holds : heldBy empty ≡ []
 unfolding empty
 empty-holds = refl
@@ -30,10 +26,6 @@ unfolding call
 call-takes m held input = sizes m held input .there
 
 module _ (p : CrsfParser) where
-  pub reset-state : isState (resetOf p) ≡ true
-  unfolding resetOf
-  reset-state = refl
-
   pub reset-holds : heldBy (resetOf p) ≡ []
   unfolding resetOf
   reset-holds = refl

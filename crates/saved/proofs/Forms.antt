@@ -8,14 +8,13 @@ use native.Mathlib.Omega.{arith}
 use borrow.Author.Tests.{ltb-true, leb-true, eqb-true, lt-ltb, le-ltb}
 use lib.Dec.{leb, ltb, eqb}
 use lib.ListN.{length, getD, take, drop, set, length-drop}
-use lib.Seq.{paste}
-use Rattle.base.specs.Parts.{pasted}
+use Rattle.base.specs.Parts.{pasted, copied}
 use Rattle.stream.specs.Places.{heldIn}
 use Rattle.stream.proofs.Held.{length-held}
 use Rattle.saved.specs.Groups.{groupsWithin, groups}
 use Rattle.saved.specs.Form.{savedForm, isCount, isSavable, isForm, heldOf}
 use Rattle.saved.specs.Save.{Told, done, refused, saveOf, restoreOf}
-use Rattle.base.proofs.Parts.{paste-all}
+use Rattle.base.proofs.Parts.{paste-all, copied-fits}
 use Rattle.saved.proofs.Writes.{byte-and-copy}
 
 -- ---- one group
@@ -97,16 +96,16 @@ module _ (places : List ℕ) (start end : ℕ) (out : List ℕ) where
     save-short h = simp (good, lt-ltb (length out) (length (savedForm (heldIn places start end))) (rw form-size h))
 
     pub save-written : {b : ℕ} {after : List ℕ} → end - start + 1 ≤ length out → b ≡ end - start
-        → after ≡ paste (set out 0 b) 1 (heldIn places start end) (end - start)
+        → after ≡ copied (set out 0 b) 1 (heldIn places start end) (end - start)
         → (done (end - start + 1), after) ≡ saveOf places start end out
     unfolding saveOf
-    save-written {b} {after} room e copied =
+    save-written {b} {after} room e copies =
         let s = span in
         let held = heldIn places start end in
         let l = size in
         let same : b ∷ held ≡ savedForm held = ap (λ (n : ℕ). n ∷ held) (e ∙ sym size) ∙ sym (form-is held (omega arith)) in
         let all : after ≡ pasted out 0 (savedForm held) =
-        copied ∙ byte-and-copy out b held (end - start) (sym size) (omega arith) ∙ ap (pasted out 0) same in
+        copies ∙ byte-and-copy out b held (end - start) (sym size) (omega arith) ∙ ap (pasted out 0) same in
         simp (good, le-ltb (length out) (length (savedForm held)) (rw form-size room))
         (ap₂ (λ (n : ℕ) (l : List ℕ). (done n, l)) (sym form-size) all)
 
@@ -118,9 +117,11 @@ module _ (form places : List ℕ) where
   restore-refused e = simp e
 
   pub restore-held : {n : ℕ} {after : List ℕ} → isForm (length places) form ≡ true → n ≡ length form - 1
-      → after ≡ paste places 0 (heldOf form) n → (done n, after) ≡ restoreOf form places
+      → after ≡ copied places 0 (heldOf form) n → (done n, after) ≡ restoreOf form places
   unfolding restoreOf
-  restore-held {n} {after} e q copied =
+  restore-held {n} {after} e q copies =
+      let f = accepted (length places) form e in
       let count : n ≡ length (heldOf form) = q ∙ sym (length-held-of form) in
-      let all : after ≡ pasted places 0 (heldOf form) = copied ∙ paste-all places 0 (heldOf form) n count in
+      let all : after ≡ pasted places 0 (heldOf form) =
+      copies ∙ copied-fits places 0 (heldOf form) n (omega arith) (omega arith) ∙ paste-all places 0 (heldOf form) n count in
       simp (e, count, all)

@@ -5,14 +5,14 @@ use mathlib.Core.List.{List, [], _∷_}
 use Prim.Native.Nat.{ℕ, _+_, _≤_}
 use native.Mathlib.Omega.{arith}
 use lib.ListN.{length, set, length-set}
-use lib.Seq.{paste}
-use Rattle.base.specs.Parts.{pasted}
-use Rattle.base.proofs.Parts.{pasted-append, paste-all, set-pasted}
+use Rattle.base.specs.Parts.{pasted, copied}
+use Rattle.base.proofs.Parts.{pasted-append, paste-all, set-pasted, copied-fits}
 
 -- a byte, and then a copy behind it
-pub byte-and-copy : (d : List ℕ) (b : ℕ) (s : List ℕ) (n : ℕ) → n ≡ length s → 1 + n ≤ length d → paste (set d 0 b) 1 s n ≡ pasted d 0 (b ∷ s)
+pub byte-and-copy : (d : List ℕ) (b : ℕ) (s : List ℕ) (n : ℕ) → n ≡ length s → 1 + n ≤ length d → copied (set d 0 b) 1 s n ≡ pasted d 0 (b ∷ s)
 byte-and-copy d b s n e room =
-    paste-all (set d 0 b) 1 s n e
+    copied-fits (set d 0 b) 1 s n (simp length-set (omega arith)) (omega arith)
+    ∙ paste-all (set d 0 b) 1 s n e
     ∙ ap (λ (l : List ℕ). pasted l 1 s) (set-pasted d 0 b (omega arith))
     ∙ pasted-append d 0 1 (b ∷ []) s (omega arith) (omega arith)
 

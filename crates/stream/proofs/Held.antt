@@ -6,7 +6,8 @@ use native.Mathlib.Omega.{arith}
 use native.Mathlib.Nat.{zero-add, sub-zero}
 use lib.ListN.{length, take, drop, getD, set, length-drop, length-take, List·getD-append}
 use lib.Seq.{paste, length-take-le, getD-append-add, getD-drop, getD-take, take-paste, drop-append-le, take-at, take-length, drop-drop}
-use Rattle.base.proofs.Parts.{paste-more, drop-take}
+use Rattle.base.proofs.Parts as shared
+use Rattle.base.proofs.Parts.{drop-take}
 use Rattle.stream.specs.Places.{heldIn}
 
 module _ (d : List ℕ) (start i : ℕ) (inside : start + i < length d) where
@@ -24,10 +25,7 @@ module _ (d : List ℕ) (start i : ℕ) (inside : start + i < length d) where
   pub front-more : set (paste d 0 (drop start d) i) i (getD (paste d 0 (drop start d) i) (start + i) 0) ≡ paste d 0 (drop start d) (i + 1)
   front-more =
       let enough : i < length (drop start d) = simp length-drop (omega arith) in
-      let low : 0 + i < length d = omega arith in
-      rw unread
-      (ap (λ (k : ℕ). set (paste d 0 (drop start d) i) k (getD (drop start d) i 0)) (sym (zero-add i))
-      ∙ paste-more d 0 (drop start d) i low enough)
+      rw unread (shared.front-more d (drop start d) i 0 (omega arith) enough)
 
 module _ (places : List ℕ) (start end : ℕ) (ordered : start ≤ end) where
   pub length-held : end ≤ length places → length (heldIn places start end) ≡ end - start

@@ -6,8 +6,7 @@ use native.Mathlib.Omega.{arith}
 use borrow.Author.Tests.{le-ltb}
 use lib.ListN.{length, getD, take, drop, length-drop}
 use lib.Seq.{take-suc, take-length, getD-drop}
-use Rattle.view.specs.declared.RawView.the-variants.{View}
-use Rattle.view.specs.View.{rawOf, payloadOf}
+use Rattle.view.specs.View.{payloadOf}
 
 heads : (s : List ℕ) → 3 ≤ length s → s ≡ getD s 0 0 ∷ getD s 1 0 ∷ getD s 2 0 ∷ drop 3 s
 heads [] h = absurd (omega arith)
@@ -16,10 +15,6 @@ heads (a ∷ b ∷ []) h = absurd (omega arith)
 heads (a ∷ b ∷ c ∷ s) h = refl
 
 module _ (s : List ℕ) (four : 4 ≤ length s) where
-  pub viewed : rawOf s ≡ View (getD s 0 0) (getD s 2 0) (getD s (length s - 1) 0)
-  unfolding rawOf
-  viewed = rw (le-ltb (length s) 4 four)
-
   payload-is : payloadOf s ≡ take (length s - 4) (drop 3 s)
   unfolding payloadOf
   payload-is = rw (le-ltb (length s) 4 four)

@@ -32,19 +32,15 @@ ofHeld (InvalidPacketLength l) = false
 ofHeld (InvalidCrc calculated carried) = false
 ofHeld BadState = false
 
+-- 01's number and values of each case: 0 for a view
+unfoldable pub rawShown : RawView → ℕ × List ℕ
+rawShown (View address kind check) = (0, address ∷ kind ∷ check ∷ [])
+rawShown InvalidPayloadLength = (4, [])
+
 -- document 01, "A raw view of any 4 bytes or more": byte 0, byte 2 and the last byte
-unfoldable pub rawOf : List ℕ → RawView
-rawOf s = if ltb (length s) 4 then InvalidPayloadLength else View (getD s 0 0) (getD s 2 0) (getD s (length s - 1) 0)
+unfoldable pub rawOf : List ℕ → ℕ × List ℕ
+rawOf s = if ltb (length s) 4 then (4, []) else (0, getD s 0 0 ∷ getD s 2 0 ∷ getD s (length s - 1) 0 ∷ [])
 
 -- and the bytes between byte 2 and the last
 unfoldable pub payloadOf : List ℕ → List ℕ
 payloadOf s = if ltb (length s) 4 then [] else part s 3 (length s - 4)
-
--- 01's number and values of each case: 0 for a view
-unfoldable pub rawNumber : RawView → ℕ
-rawNumber (View address kind check) = 0
-rawNumber InvalidPayloadLength = 4
-
-unfoldable pub rawValues : RawView → List ℕ
-rawValues (View address kind check) = address ∷ kind ∷ check ∷ []
-rawValues InvalidPayloadLength = []

@@ -2,7 +2,7 @@
 use stream::step::Answer;
 ghost use mathlib.Core.Path.{_≡_};
 ghost use Rattle.base.specs.Parts.{part};
-ghost use Rattle.view.specs.View.{frameOf, rawOf, payloadOf};
+ghost use Rattle.view.specs.View.{frameOf, rawShown, rawOf, payloadOf};
 
 // The len bytes of s from place at on, as far as they are there.
 fn part_of(s: &[u8], at: usize, len: usize) -> &[u8]
@@ -41,7 +41,7 @@ pub enum RawView {
 }
 
 pub fn raw_view(s: &[u8]) -> RawView
-    ensures { λ r. ⌜ r ≡ rawOf (now (s .entry)) ⌝ }
+    ensures { λ r. ⌜ rawShown r ≡ rawOf (now (s .entry)) ⌝ }
 {
     let n = s.len();
     if n < 4 {

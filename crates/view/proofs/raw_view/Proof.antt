@@ -1,12 +1,12 @@
 -- `view::raw_view` meets its contract. Assumes nothing.
 use borrow.Author.Tests.{lt-ltb, le-ltb}
-use Rattle.view.specs.View.{rawOf}
+use Rattle.view.specs.View.{rawShown, rawOf}
 use borrow.Author.Needs.{needs}
 use Rattle.view.proofs.raw_view.Statement.{statement}
 use Rattle.view.proofs.raw_view.Tie as tie
 
 returns : tie.Need-returns
-unfolding rawOf
+unfolding rawShown rawOf
 returns c = simp (lt-ltb _ _ (c .if1 .taken))
 
 shared-slice-read-t5 : tie.Need-shared-slice-read-t5
@@ -22,7 +22,7 @@ shared-slice-read-t10 : tie.Need-shared-slice-read-t10
 shared-slice-read-t10 c = search needs
 
 returns-2 : tie.Need-returns-2
-unfolding rawOf
+unfolding rawShown rawOf
 returns-2 c = simp (le-ltb _ _ (c .before .before .before .if1 .left))
 
 pub raw-view-spec : {M : Type 1} → statement M

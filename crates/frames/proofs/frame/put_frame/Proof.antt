@@ -6,7 +6,7 @@ use native.Mathlib.Omega.{arith}
 use borrow.Author.Needs.{needs}
 use lib.ListN.{take}
 use lib.Seq.{length-take-le}
-use Rattle.base.proofs.Parts.{paste-pasted}
+use Rattle.base.proofs.Parts.{copied-fits, paste-pasted}
 use Rattle.frames.proofs.Built.{short, sealed}
 use Rattle.frames.proofs.frame.put_frame.Statement.{statement}
 use Rattle.frames.proofs.frame.put_frame.Tie as tie
@@ -36,7 +36,9 @@ returns-2 c =
     let a = room .before .before .before .args in
     let pay : List ℕ = take (a .size) (a .payload .now) in
     sealed pay (a .size) (a .dest) (a .kind) (length-take-le (a .size) (a .payload .now) (omega arith)) (a .buffer .now) (room .if1 .left)
-    (copy .copy-in .ensures ∙ paste-pasted (a .buffer .now) (a .payload .now) 3 (a .size) (omega arith)) (framing .seal .ensures)
+    (copy .copy-in .ensures
+    ∙ copied-fits (a .buffer .now) 3 (a .payload .now) (a .size) (omega arith) (omega arith)
+    ∙ paste-pasted (a .buffer .now) (a .payload .now) 3 (a .size) (omega arith)) (framing .seal .ensures)
 
 pub put-frame-spec : {M : Type 1} → statement M
 put-frame-spec =

@@ -5,8 +5,9 @@ use mathlib.Core.List.{List}
 use Prim.Native.Nat.{ℕ, _-_}
 use native.Mathlib.Omega.{arith}
 use borrow.Author.Tests.{not-true, not-false}
-use lib.ListN.{length, drop, length-take, length-drop}
-use lib.Seq.{paste, take-all}
+use lib.ListN.{length, drop, length-drop}
+use lib.Seq.{take-all}
+use Rattle.base.specs.Parts.{copied}
 use Rattle.base.proofs.Tests.{told-not}
 use Rattle.saved.specs.Form.{isForm}
 use Rattle.saved.proofs.Forms.{Accepted, accepted, restore-refused, restore-held}
@@ -41,7 +42,7 @@ part-copy-in-end : tie.Need-part-copy-in-end
 part-copy-in-end c = search needs
 
 copy-in-requires : tie.Need-copy-in-requires
-copy-in-requires c κs = let f = form (c .before .before) in simp (length-take, length-drop) (omega arith)
+copy-in-requires c κs = search needs
 
 same-length : tie.Need-same-length
 same-length c = search needs
@@ -52,7 +53,7 @@ returns-2 c =
     let f = a .form .now in
     restore-held f (a .places .now) (good (c .before .before .before .before .before)) refl
     (c .before .before .copy-in .ensures
-    ∙ ap (λ (l : List ℕ). paste (a .places .now) 0 l (length f - 1)) (take-all (length f - 1) (drop 1 f) (simp length-drop (omega arith))))
+    ∙ ap (λ (l : List ℕ). copied (a .places .now) 0 l (length f - 1)) (take-all (length f - 1) (drop 1 f) (simp length-drop (omega arith))))
 
 pub restore-in-spec : {M : Type 1} → statement M
 restore-in-spec =

@@ -3,7 +3,7 @@ use mathlib.Core.Path.{_≡_, _∙_}
 use mathlib.Core.Bool.{true}
 use native.Mathlib.Omega.{arith}
 use borrow.Author.Tests.{not-true, not-false}
-use lib.ListN.{length, length-set, length-take, length-drop}
+use lib.ListN.{length, length-set}
 use Rattle.base.proofs.Tests.{told-not}
 use Rattle.saved.specs.Form.{isSavable}
 use Rattle.saved.proofs.Forms.{Savable, savable, save-refused, save-short, save-written}
@@ -52,8 +52,7 @@ part-copy-in-end : tie.Need-part-copy-in-end
 part-copy-in-end c = span (c .before .before .before) .inside
 
 copy-in-requires : tie.Need-copy-in-requires
-copy-in-requires c κs =
-    let s = span (c .before .before .before .before) in simp (length-set, length-take, length-drop) (omega arith)
+copy-in-requires c κs = search needs
 
 add-t9 : tie.Need-add-t9
 add-t9 c = search needs

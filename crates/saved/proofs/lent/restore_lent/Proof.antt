@@ -38,7 +38,7 @@ slice-write-state : tie.Need-slice-write-state
 slice-write-state c = search needs
 
 copy-in-requires : tie.Need-copy-in-requires
-copy-in-requires c κs = let f = form (c .before) in simp length-set (omega arith)
+copy-in-requires c κs = search needs
 
 sub-t10 : tie.Need-sub-t10
 sub-t10 c = form (c .before .before .before .before) .some
