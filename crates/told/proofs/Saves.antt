@@ -3,7 +3,8 @@
 use mathlib.Core.Path.{_≡_, refl, sym, ap, ap₂, _∙_, subst}
 use mathlib.Core.Bool.{true, false}
 use mathlib.Core.List.{List}
-use Prim.Native.Nat.{ℕ, _-_, _≤_, _<_}
+use Prim.Native.Nat.{ℕ, _-_, _%_, _≤_, _<_}
+use native.Mathlib.Nat.{mod-eq-of-lt}
 use native.Mathlib.Omega.{arith}
 use borrow.Author.Tests.{eq-eqb, ne-eqb, le-leb, lt-leb}
 use lib.Dec.{eqb, ltb, lit<}
@@ -72,9 +73,11 @@ module _ (state : List ℕ) {start end : ℕ} (first : start ≡ getD state 0 0)
   unfolding heldCount
   past size low h = simp (← first, ← second, eq-eqb _ _ size, le-leb _ _ low, lt-leb _ _ h)
 
-  pub holds : length state ≡ 66 → start ≤ end → end ≤ 64 → toldCount (end - start) ≡ heldCount state
+  pub holds : length state ≡ 66 → start ≤ end → end ≤ 64 → toldCount ((end - start) % 256) ≡ heldCount state
   unfolding heldCount
-  holds size low h = simp (← first, ← second, eq-eqb _ _ size, le-leb _ _ low, le-leb _ _ h)
+  holds size low h =
+      let few : end - start < 256 = omega arith in
+      simp (mod-eq-of-lt few, ← first, ← second, eq-eqb _ _ size, le-leb _ _ low, le-leb _ _ h)
 
 pub unsized : (state : List ℕ) → (length state ≡ 66 → ⊥) → toldRefusal 8 ≡ heldCount state
 unfolding heldCount
