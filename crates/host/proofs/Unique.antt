@@ -1,26 +1,24 @@
 -- Each entry's promise leaves one answer, and one content of each buffer lent to be written. `Post` is what the prover reads off the source's own
 -- `ensures`, so a weaker clause there breaks its line here.
 -- Assumes nothing.
-use mathlib.Core.Path.{_≡_, refl, sym, ap, _∙_}
-use mathlib.Core.Bool.{Bool, true, false}
+use mathlib.Core.Path.{_≡_, ap, _∙_}
+use mathlib.Core.Bool.{Bool}
 use mathlib.Core.List.{List, [], _∷_}
-use Prim.Native.Nat.{ℕ, _+_, _<_}
+use Prim.Native.Nat.{ℕ, _+_}
 use native.Mathlib.Nat.{add-comm}
 use denote.Ref.{now}
-use lib.Dec.{eqb, lit<}
+use lib.Dec.{lit<}
 use lib.IntN.{ℤ}
-use lib.ListN.{length, getD, take, drop, set}
+use lib.ListN.{getD, drop}
 use lib.Seq.{drop-drop}
 use Rattle.base.proofs.Unique.{OneAnswer, same}
 use Rattle.stream.specs.Places.{heldIn}
 use Rattle.stream.specs.Seen.{Seen, unplaced, frameAmong, ifRefused, seen}
 use Rattle.stream.specs.declared.step.Answer.{Answer}
 use Rattle.stream.specs.declared.step.Answer.the-variants.{Stop, InPiece, InHeld, InvalidSync, InvalidPacketLength, InvalidCrc, BadState}
-use Rattle.stream.specs.declared.step.Answered.{Answered}
 use Rattle.stream.proofs.Unique.{one-lent}
-use Rattle.told.specs.declared.answer.Told.{Told}
 use Rattle.told.specs.Answer.{packed, lowestFirst}
-use Rattle.told.specs.Call.{toldAnswer, toldCall, Calls}
+use Rattle.told.specs.Call.{toldAnswer, Calls}
 use Rattle.told.specs.Seen.{unpacked, Shown, shown}
 use Rattle.told.proofs.Fits.{Fits, call-fits}
 use Rattle.told.proofs.Packing.{unpack}

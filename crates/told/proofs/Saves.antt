@@ -1,17 +1,17 @@
 -- The counts that a save, a restore and a reset tell fit a byte, so an entry's answer follows from what the function below it tells.
 -- Assumes nothing.
-use mathlib.Core.Path.{_≡_, refl, sym, ap, ap₂, _∙_, subst}
-use mathlib.Core.Bool.{true, false}
+use mathlib.Core.Path.{_≡_, ap, _∙_}
+use mathlib.Core.Bool.{true}
 use mathlib.Core.List.{List}
 use Prim.Native.Nat.{ℕ, _-_, _%_, _≤_, _<_}
 use native.Mathlib.Nat.{mod-eq-of-lt}
 use native.Mathlib.Omega.{arith}
 use borrow.Author.Tests.{eq-eqb, ne-eqb, le-leb, lt-leb}
 use lib.Dec.{eqb, ltb, lit<}
-use lib.ListN.{length, getD, take, drop, length-take}
+use lib.ListN.{length, getD, drop, length-take}
 use Rattle.base.proofs.Tests.{by-test}
 use Rattle.stream.specs.Places.{heldIn}
-use Rattle.saved.specs.Form.{savedForm, isSavable, isForm, heldOf}
+use Rattle.saved.specs.Form.{savedForm, isSavable, isForm}
 use Rattle.saved.specs.Save.{Told, saveOf, saveLentOf, restoreLentOf, resetLentOf}
 use Rattle.saved.proofs.Forms.{length-form, savable}
 use Rattle.saved.proofs.Laws.{held-group}

@@ -1,7 +1,6 @@
 -- What a writer of frames tells fits a byte, so an entry's answer follows from what the frame's writer promises.
 -- Assumes nothing.
 use mathlib.Core.Path.{_≡_, refl, sym, ap, _∙_, subst}
-use mathlib.Core.Bool.{true, false}
 use mathlib.Core.List.{List, _∷_}
 use mathlib.Core.Logic.{⊎-elim}
 use Prim.Native.Nat.{ℕ, _≤_, _<_}
@@ -16,7 +15,7 @@ use Rattle.packets.specs.Listed.{listed}
 use Rattle.reading.specs.Frame.{frame}
 use Rattle.layout.specs.Writing.{Image, bytes, refused, writeOf}
 use Rattle.layout.specs.declared.Written.{Written}
-use Rattle.layout.specs.declared.Written.the-variants.{Wrote, InvalidPayloadLength, BufferOverflow, ChannelRange, BadAddress}
+use Rattle.layout.specs.declared.Written.the-variants.{InvalidPayloadLength, ChannelRange}
 use Rattle.channels.specs.Channels.{firstAbove, channelsImage}
 use Rattle.channels.specs.declared.RcChannelsPacked.{RcChannelsPacked}
 use Rattle.channels.proofs.Laws.{image-refused, image-bytes}

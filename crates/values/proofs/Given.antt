@@ -1,7 +1,7 @@
 -- A loop that copies the first numbers of a list over those of another, one a turn, and what is given then.
 -- Assumes nothing.
-use mathlib.Core.Path.{_≡_, refl, sym, ap, _∙_}
-use mathlib.Core.List.{List, [], _∷_, _++_}
+use mathlib.Core.Path.{_≡_, sym, ap, _∙_}
+use mathlib.Core.List.{List, [], _++_}
 use Prim.Native.Nat.{ℕ, suc, _+_, _^_, _≤_, _<_}
 use native.Mathlib.Nat.{mod-eq-of-lt, min-le-right, zero-add}
 use native.Mathlib.Numerals.{add-one}
@@ -11,7 +11,7 @@ use lib.Dec.{leb, lit≤, lit<}
 use lib.IntN.{ℤ, pos}
 use lib.Signed.{mag}
 use lib.ListN.{length, getD, take, drop, set, length-take, take-append-drop}
-use lib.Seq.{drop-cons, set-at, append-snoc, take-suc, length-take-le, take-append-seam}
+use lib.Seq.{drop-cons, set-at, append-snoc, take-suc, length-take-le, take-all, take-append-seam}
 use Rattle.base.specs.Bytes.{Bytes}
 use Rattle.base.specs.Parts.{part, copied}
 use Rattle.base.proofs.Parts.{length-part, bytes-part, copied-fits}
@@ -95,16 +95,18 @@ few-read payload =
 pub rpm-few : {m : RpmRead} (payload : List ℕ) → m ≡ rpmRead payload → m .rpm .count ≤ 19
 rpm-few payload e = rw e (few-read payload)
 
--- ---- Records of fixed layouts
+-- ---- Records of fixed layouts, by the number and the values that their reading answers
 
-module _ {read : Answer} (out : List ℤ) where
-  pub fixed-given : (vs : List ℤ) (n : ℕ) → length vs ≡ n → read ≡ (0, vs) → given (toldCount n) vs out ≡ gives read out
+module _ {M : Type 0} (answerOf : M → Answer) (out : List ℤ) {m : M} {read : Answer} (reads : answerOf m ≡ read) where
+  pub fixed-given : {x : M} {ws vs : List ℤ} {told : Told} {n : ℕ} {gave : ℕ × List ℤ} → m ≡ x → answerOf x ≡ (0, ws) → length ws ≡ n
+      → vs ≡ ws → told ≡ toldCount n → gave ≡ given told (take n vs) out → gave ≡ gives read out
   unfolding gives
-  fixed-given vs n size e = rw (e, size)
+  fixed-given {ws = ws} {n = n} known is size same tells gives =
+      gives ∙ rw (same, tells, take-all n ws (omega arith), ← reads, known, is, size)
 
-  pub fixed-refused : read ≡ (4, []) → (packed (toldRefusal 4), out) ≡ gives read out
+  pub fixed-refused : {x : M} {r : ℕ} → m ≡ x → answerOf x ≡ (4, []) → r ≡ packed (toldRefusal 4) → (r, out) ≡ gives read out
   unfolding gives
-  fixed-refused e = rw e
+  fixed-refused known is refuses = rw (refuses, ← reads, known, is)
 
 -- the capacity that a battery record reads as has 24 bits
 capacity-bound : (payload : List ℕ) → Bytes payload → 7 ≤ length payload → beOf (part payload 4 3) < 2 ^ 24

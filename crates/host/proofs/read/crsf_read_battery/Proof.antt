@@ -1,13 +1,8 @@
 -- `host::read::crsf_read_battery` meets its contract. Assumes nothing.
-use mathlib.Core.Path.{_≡_, refl, sym, ap, ap₂, _∙_}
-use mathlib.Core.List.{List}
+use mathlib.Core.Path.{refl, sym, ap, _∙_}
 use Prim.Native.Nat.{ℕ}
 use native.Mathlib.Omega.{arith}
-use lib.IntN.{ℤ}
-use lib.ListN.{take}
-use Rattle.records.specs.Battery.{batteryValues, batteryAnswer, batteryRead}
-use Rattle.told.specs.declared.answer.Told.{Told}
-use Rattle.values.specs.Read.{given, keptBattery}
+use Rattle.records.specs.Battery.{batteryValues, batteryAnswer}
 use Rattle.values.proofs.Given.{fixed-given, fixed-refused, battery-kept}
 use borrow.Author.Needs.{needs}
 use Rattle.host.proofs.read.crsf_read_battery.Statement.{statement}
@@ -48,21 +43,18 @@ returns c =
     let told = made .before .before .before in
     let read = told .before .before in
     let a = read .before .before .args in
-    let x = told .read .given .0 .0 in
-    let is : batteryRead (a .payload .now) ≡ (0, batteryValues x) = sym (read .from-bytes .ensures) ∙ ap batteryAnswer (told .read .given .1) in
-    let kept : keptBattery x ≡ x = battery-kept (a .payload .now) x (λ (i : ℕ). omega (arith, read .before .shared-slice-known .given i)) is in
-    gave .give .ensures
-    ∙ ap₂ (λ (t : Told) (vs : List ℤ). given t (take 5 vs) (a .out .now)) (made .placed .ensures) (made .before .battery-values .ensures ∙ ap batteryValues kept)
-    ∙ fixed-given (a .out .now) (batteryValues x) 5 refl is
+    let kept =
+    battery-kept (a .payload .now) (told .read .given .0 .0) (λ (i : ℕ). omega (arith, read .before .shared-slice-known .given i))
+    (sym (read .from-bytes .ensures) ∙ ap batteryAnswer (told .read .given .1)) in
+    fixed-given batteryAnswer (a .out .now) (read .from-bytes .ensures) (told .read .given .1) refl refl (made .before .battery-values .ensures ∙ ap batteryValues kept)
+    (made .placed .ensures) (gave .give .ensures)
 
 returns-2 : tie.Need-returns-2
 unfolding batteryAnswer
 returns-2 c =
     let told = c .before in
     let read = told .before .before in
-    let a = read .before .before .args in
-    ap (λ (r : ℕ). (r, a .out .now)) (c .refuse .ensures)
-    ∙ fixed-refused (a .out .now) (sym (read .from-bytes .ensures) ∙ ap batteryAnswer (told .enum-told .given .1))
+    fixed-refused batteryAnswer (read .before .before .args .out .now) (read .from-bytes .ensures) (told .enum-told .given .1) refl (c .refuse .ensures)
 
 pub crsf-read-battery-spec : {M : Type 1} → statement M
 crsf-read-battery-spec =

@@ -1,5 +1,5 @@
 -- `host::write::crsf_write_rpm` meets its contract. Assumes nothing.
-use mathlib.Core.Path.{refl, sym, ap, _∙_}
+use mathlib.Core.Path.{refl, ap, _∙_}
 use Rattle.layout.specs.Writing.{Image}
 use Rattle.layout.specs.declared.Written.{Written}
 use Rattle.frames.proofs.Fits.{rpm-small}
