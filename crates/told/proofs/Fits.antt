@@ -1,8 +1,9 @@
--- Every number that a call of the stream tells fits a byte: none is past the limit of 64 places.
+-- Every count that a call of the stream tells fits a byte, since none is past the limit of 64 places; and what fits is told as it is.
 -- Assumes nothing.
-use mathlib.Core.Path.{_≡_, refl, ap, subst}
+use mathlib.Core.Path.{_≡_, refl}
 use mathlib.Core.List.{List}
-use Prim.Native.Nat.{ℕ, _+_, _≤_}
+use Prim.Native.Nat.{ℕ, _+_, _≤_, _<_}
+use native.Mathlib.Nat.{mod-eq-of-lt}
 use native.Mathlib.Omega.{arith}
 use borrow.Author.Tests.{eqb-true, eqb-false}
 use lib.Dec.{eqb}
@@ -13,21 +14,32 @@ use Rattle.stream.specs.declared.step.Answer.{Answer}
 use Rattle.stream.specs.declared.step.Answer.the-variants.{Stop, InPiece, InHeld, InvalidSync, InvalidPacketLength, InvalidCrc, BadState}
 use Rattle.stream.specs.declared.step.Answered.{Answered}
 use Rattle.stream.proofs.Bounds.{taken-bound, piece-bound, place-bound}
-use Rattle.told.specs.Call.{AnswerFits, CallFits}
+use Rattle.told.specs.declared.answer.Told.{Told}
+use Rattle.told.specs.Answer.{inBytes}
+use Rattle.told.specs.Call.{toldAnswer, toldCall}
 
-answer-fits : (a : Answer) → ((n : ℕ) → a ≡ InPiece n → n ≤ 64) → ((at n : ℕ) → a ≡ InHeld at n → at + n ≤ 64) → AnswerFits a
-answer-fits Stop piece held = tt
-answer-fits (InPiece n) piece held = omega (arith, piece n refl)
-answer-fits (InHeld at n) piece held = (omega (arith, held at n refl), omega (arith, held at n refl))
-answer-fits (InvalidSync b) piece held = tt
-answer-fits (InvalidPacketLength l) piece held = tt
-answer-fits (InvalidCrc calculated carried) piece held = tt
-answer-fits BadState piece held = tt
+-- each count fits a byte
+abbrev pub Fits : Told → Type 0
+Fits t = (t .taken < 256) × (t .at < 256) × (t .len < 256)
 
-pub call-fits : {before input after : List ℕ} {r : Answered} → Lends before input after r → CallFits r
+pub in-bytes : (t : Told) → Fits t → inBytes t ≡ t
+in-bytes t f = rw (mod-eq-of-lt (f .0), mod-eq-of-lt (f .1), mod-eq-of-lt (f .2))
+
+answer-fits : (t : ℕ) (a : Answer) → t ≤ 64 → ((n : ℕ) → a ≡ InPiece n → n ≤ 64) → ((at n : ℕ) → a ≡ InHeld at n → at + n ≤ 64) → Fits (toldAnswer t a)
+unfolding toldAnswer
+answer-fits t Stop few piece held = omega arith
+answer-fits t (InPiece n) few piece held = omega (arith, piece n refl)
+answer-fits t (InHeld at n) few piece held = omega (arith, held at n refl)
+answer-fits t (InvalidSync b) few piece held = omega arith
+answer-fits t (InvalidPacketLength l) few piece held = omega arith
+answer-fits t (InvalidCrc calculated carried) few piece held = omega arith
+answer-fits t BadState few piece held = omega arith
+
+pub call-fits : {before input after : List ℕ} {r : Answered} → Lends before input after r → Fits (toldCall r)
+unfolding toldAnswer
 call-fits {before} {input} {after} {r} lends =
     by-test (eqb (length before) 66)
     (λ t.
     let steps = lends .steps (eqb-true (length before) 66 t) in
-    (omega (arith, taken-bound steps), answer-fits (r .answer) (λ n e. piece-bound steps n e .1) (place-bound steps)))
-    (λ t. rw (lends .refuses (eqb-false (length before) 66 t) .0) (omega arith, tt))
+    answer-fits (r .taken) (r .answer) (taken-bound steps .1) (λ n e. piece-bound steps n e .1) (place-bound steps))
+    (λ t. rw (lends .refuses (eqb-false (length before) 66 t) .0) (omega arith))

@@ -1,8 +1,8 @@
 -- The bytes of a packed answer.
 -- Assumes nothing.
-use mathlib.Core.Path.{_≡_, refl, ap, ap₂, _∙_}
-use mathlib.Core.List.{List, [], _∷_}
-use Prim.Native.Nat.{ℕ, suc, _+_, _*_, _/_, _%_, _<_}
+use mathlib.Core.Path.{_≡_, ap, ap₂, _∙_}
+use mathlib.Core.List.{List, _∷_}
+use Prim.Native.Nat.{ℕ, suc, _+_, _<_}
 use native.Mathlib.Nat.{add-mul-mod-self-left, mod-eq-of-lt, add-mul-div-left, div-eq-of-lt, zero-add}
 use native.Mathlib.Omega.{arith}
 use Rattle.told.specs.Answer.{lowestFirst}

@@ -1,21 +1,23 @@
--- The counts that a save, a restore and a reset tell fit a byte, and an entry's answer follows from what the function below it tells.
+-- The counts that a save, a restore and a reset tell fit a byte, so an entry's answer follows from what the function below it tells.
 -- Assumes nothing.
-use mathlib.Core.Path.{_≡_, refl, sym, ap, ap₂, _∙_, subst}
-use mathlib.Core.Bool.{true, false}
+use mathlib.Core.Path.{_≡_, ap, _∙_}
+use mathlib.Core.Bool.{true}
 use mathlib.Core.List.{List}
-use Prim.Native.Nat.{ℕ, _-_, _≤_, _<_}
+use Prim.Native.Nat.{ℕ, _-_, _%_, _≤_, _<_}
+use native.Mathlib.Nat.{mod-eq-of-lt}
 use native.Mathlib.Omega.{arith}
 use borrow.Author.Tests.{eq-eqb, ne-eqb, le-leb, lt-leb}
 use lib.Dec.{eqb, ltb, lit<}
-use lib.ListN.{length, getD, take, drop, length-take}
+use lib.ListN.{length, getD, drop, length-take}
 use Rattle.base.proofs.Tests.{by-test}
 use Rattle.stream.specs.Places.{heldIn}
-use Rattle.saved.specs.Form.{savedForm, isSavable, isForm, heldOf}
+use Rattle.saved.specs.Form.{savedForm, isSavable, isForm}
 use Rattle.saved.specs.Save.{Told, saveOf, saveLentOf, restoreLentOf, resetLentOf}
 use Rattle.saved.proofs.Forms.{length-form, savable}
 use Rattle.saved.proofs.Laws.{held-group}
-use Rattle.told.specs.Answer.{packed, toldCount, toldRefusal}
+use Rattle.told.specs.Answer.{packed, toldCount, toldRefusal, inBytes}
 use Rattle.told.specs.State.{toldState, tells, heldCount}
+use Rattle.told.proofs.Fits.{in-bytes}
 
 form-short : (places : List ℕ) (start end : ℕ) → isSavable (length places) start end ≡ true → length (savedForm (heldIn places start end)) < 256
 form-short places start end t =
@@ -55,11 +57,10 @@ unfolding resetLentOf
 reset-fits state = by-test (eqb (length state) 66) (λ t. simp t (lit< tt)) (λ t. simp t (lit< tt))
 
 module _ {t : Told} {b : List ℕ} {x : Told × List ℕ} (e : (t, b) ≡ x) where
-  pub told-fits : x .0 .count < 256 → t .count < 256
-  told-fits h = rw (ap (λ (y : Told × List ℕ). y .0) e) h
-
-  pub told-on : {r : ℕ} → r ≡ packed (toldState t) → (r, b) ≡ tells x
-  told-on p = ap (λ (n : ℕ). (n, b)) p ∙ ap tells e
+  pub told-on : {r : ℕ} → x .0 .count < 256 → r ≡ packed (inBytes (toldState t)) → (r, b) ≡ tells x
+  told-on few p =
+      let fits : t .count < 256 = rw (ap (λ (y : Told × List ℕ). y .0) e) few in
+      ap (λ (n : ℕ). (n, b)) (p ∙ ap packed (in-bytes (toldState t) (omega arith))) ∙ ap tells e
 
 -- ---- The count of held bytes, by the tests on the way
 
@@ -72,9 +73,11 @@ module _ (state : List ℕ) {start end : ℕ} (first : start ≡ getD state 0 0)
   unfolding heldCount
   past size low h = simp (← first, ← second, eq-eqb _ _ size, le-leb _ _ low, lt-leb _ _ h)
 
-  pub holds : length state ≡ 66 → start ≤ end → end ≤ 64 → toldCount (end - start) ≡ heldCount state
+  pub holds : length state ≡ 66 → start ≤ end → end ≤ 64 → toldCount ((end - start) % 256) ≡ heldCount state
   unfolding heldCount
-  holds size low h = simp (← first, ← second, eq-eqb _ _ size, le-leb _ _ low, le-leb _ _ h)
+  holds size low h =
+      let few : end - start < 256 = omega arith in
+      simp (mod-eq-of-lt few, ← first, ← second, eq-eqb _ _ size, le-leb _ _ low, le-leb _ _ h)
 
 pub unsized : (state : List ℕ) → (length state ≡ 66 → ⊥) → toldRefusal 8 ≡ heldCount state
 unfolding heldCount

@@ -1,10 +1,10 @@
--- What a writer of frames tells fits a byte, and an entry's answer follows from what the frame's writer promises.
+-- What a writer of frames tells fits a byte, so an entry's answer follows from what the frame's writer promises.
 -- Assumes nothing.
 use mathlib.Core.Path.{_≡_, refl, sym, ap, _∙_, subst}
-use mathlib.Core.Bool.{true, false}
 use mathlib.Core.List.{List, _∷_}
 use mathlib.Core.Logic.{⊎-elim}
 use Prim.Native.Nat.{ℕ, _≤_, _<_}
+use native.Mathlib.Nat.{mod-eq-of-lt}
 use native.Mathlib.Omega.{arith}
 use borrow.Author.Tests.{eq-eqb, ne-eqb}
 use lib.Dec.{leb}
@@ -15,7 +15,7 @@ use Rattle.packets.specs.Listed.{listed}
 use Rattle.reading.specs.Frame.{frame}
 use Rattle.layout.specs.Writing.{Image, bytes, refused, writeOf}
 use Rattle.layout.specs.declared.Written.{Written}
-use Rattle.layout.specs.declared.Written.the-variants.{Wrote, InvalidPayloadLength, BufferOverflow, ChannelRange, BadAddress}
+use Rattle.layout.specs.declared.Written.the-variants.{InvalidPayloadLength, ChannelRange}
 use Rattle.channels.specs.Channels.{firstAbove, channelsImage}
 use Rattle.channels.specs.declared.RcChannelsPacked.{RcChannelsPacked}
 use Rattle.channels.proofs.Laws.{image-refused, image-bytes}
@@ -29,19 +29,23 @@ use Rattle.rpm.proofs.RpmLaws.{rpm-image}
 use Rattle.frames.specs.Frames.{framedBody, framed, Small}
 use Rattle.frames.proofs.Built.{frame-size}
 use Rattle.told.specs.Answer.{packed}
-use Rattle.told.specs.Write.{toldWritten, WrittenFits, toldWrite, frames, refusedFor, sixteenImage, madeImage, newRpmImage}
+use Rattle.told.specs.Write.{toldWritten, inByte, toldWrite, frames, refusedFor, sixteenImage, madeImage, newRpmImage}
+
+-- what fits a byte is told as it is
+abbrev Fits : Written → Type 0
+Fits w = inByte w ≡ w
 
 -- the index that a record's own refusal carries fits a byte
 abbrev pub IndexFits : Image → Type 0
 IndexFits (bytes bs) = Unit {0}
-IndexFits (refused w) = WrittenFits w
+IndexFits (refused w) = Fits w
 
-writes-fit : (bs buffer : List ℕ) → length bs < 256 → WrittenFits (writeOf (bytes bs) buffer .0)
+writes-fit : (bs buffer : List ℕ) → length bs < 256 → Fits (writeOf (bytes bs) buffer .0)
 unfolding writeOf
-writes-fit bs buffer few = by-test (leb (length bs) (length buffer)) (λ t. simp t few) (λ t. simp t tt)
+writes-fit bs buffer few = by-test (leb (length bs) (length buffer)) (λ t. simp (t, mod-eq-of-lt few)) (λ t. simp t)
 
 body-fits : (dest kind : ℕ) (image : Image) (buffer : List ℕ) → Small image → IndexFits image
-    → WrittenFits (writeOf (framedBody dest kind image) buffer .0)
+    → Fits (writeOf (framedBody dest kind image) buffer .0)
 unfolding framedBody writeOf
 body-fits dest kind (bytes payload) buffer small index =
     let size = frame-size payload (length payload) dest kind refl in
@@ -49,24 +53,23 @@ body-fits dest kind (bytes payload) buffer small index =
 body-fits dest kind (refused w) buffer small index = index
 
 framed-fits : (dest kind : ℕ) (image : Image) (buffer : List ℕ) → Small image → IndexFits image
-    → WrittenFits (writeOf (framed dest kind image) buffer .0)
+    → Fits (writeOf (framed dest kind image) buffer .0)
 unfolding framed writeOf
 framed-fits dest kind image buffer small index =
-    by-test (listed dest) (λ t. simp t (body-fits dest kind image buffer small index)) (λ t. simp t tt)
+    by-test (listed dest) (λ t. simp t (body-fits dest kind image buffer small index)) (λ t. simp t)
 
 module _ (dest kind : ℕ) (image : Image) (buffer : List ℕ) {w : Written} {after : List ℕ} (e : (w, after) ≡ writeOf (framed dest kind image) buffer) where
-  pub frame-fits : Small image → IndexFits image → WrittenFits w
-  frame-fits small index = rw (ap (λ (x : Written × List ℕ). x .0) e) (framed-fits dest kind image buffer small index)
-
-  pub frame-told : {r : ℕ} → r ≡ packed (toldWritten w) → (r, after) ≡ frames dest kind image buffer
-  frame-told p = ap (λ (n : ℕ). (n, after)) p ∙ ap toldWrite e
+  pub frame-told : {r : ℕ} → Small image → IndexFits image → r ≡ packed (toldWritten (inByte w)) → (r, after) ≡ frames dest kind image buffer
+  frame-told small index p =
+      let fits : Fits w = rw (ap (λ (x : Written × List ℕ). x .0) e) (framed-fits dest kind image buffer small index) in
+      ap (λ (n : ℕ). (n, after)) (p ∙ ap (λ (x : Written). packed (toldWritten x)) fits) ∙ ap toldWrite e
 
 -- ---- Channels and RPM: what their own refusals carry
 
 pub channels-index : (c : RcChannelsPacked) → IndexFits (channelsImage c)
 channels-index c =
     ⊎-elim
-    (λ (bad : firstAbove (c .0) < 16). subst IndexFits (sym (image-refused c bad)) (omega arith))
+    (λ (bad : firstAbove (c .0) < 16). subst IndexFits (sym (image-refused c bad)) (ap ChannelRange (mod-eq-of-lt (omega arith))))
     (λ (good : 16 ≤ firstAbove (c .0)). subst IndexFits (sym (image-bytes c good)) tt)
     (below (firstAbove (c .0)) 16)
 
@@ -77,14 +80,11 @@ rpm-refused r = runs.image-refused 3 19 (r .«rpm_source_id») (r .«rpm_values�
 pub rpm-index : (r : Rpm) → IndexFits (rpmImage r)
 rpm-index r =
     ⊎-elim
-    (λ (many : 19 < r .count). subst IndexFits (sym (rpm-refused r many)) tt)
+    (λ (many : 19 < r .count). subst IndexFits (sym (rpm-refused r many)) refl)
     (λ (few : r .count ≤ 19). subst IndexFits (sym (rpm-image r few)) tt)
     (below 19 (r .count))
 
 -- ---- No record to write
-
-pub no-record-fits : (dest : ℕ) → WrittenFits (refusedFor dest)
-no-record-fits dest = by-test (listed dest) (λ t. simp t tt) (λ t. simp t tt)
 
 pub no-record : (dest kind : ℕ) (buffer : List ℕ) → (refusedFor dest, buffer) ≡ writeOf (framed dest kind (refused InvalidPayloadLength)) buffer
 unfolding framed framedBody writeOf

@@ -1,6 +1,6 @@
 -- What every entry answers: eight bytes, which C declares as a struct of eight and a register carries as one number, lowest byte first.
 -- Assumes nothing.
-use Prim.Native.Nat.{ℕ, _+_, _*_}
+use Prim.Native.Nat.{ℕ, _+_, _*_, _%_}
 use mathlib.Core.List.{List, [], _∷_}
 use Rattle.told.specs.declared.answer.Told.{Told}
 
@@ -30,3 +30,15 @@ toldCount n = toldPlace 0 0 0 n
 -- only a refusal
 abbrev pub toldRefusal : ℕ → Told
 toldRefusal k = toldNumber k 0 0 0
+
+-- with the low byte of each count; the other fields are bytes by their types
+abbrev pub inBytes : Told → Told
+inBytes t = record {
+  number = t .number;
+  taken = t .taken % 256;
+  in_state = t .in_state;
+  at = t .at % 256;
+  len = t .len % 256;
+  first = t .first;
+  second = t .second;
+}

@@ -1,6 +1,6 @@
 -- One call of the stream over the state's 66 lent bytes, told in eight bytes.
 -- Assumes nothing.
-use Prim.Native.Nat.{ℕ, _+_, _<_}
+use Prim.Native.Nat.{ℕ, _+_}
 use mathlib.Core.Path.{_≡_}
 use mathlib.Core.List.{List}
 use Rattle.stream.specs.Lent.{Lends}
@@ -28,16 +28,3 @@ pub record Calls (before input after : List ℕ) (r : ℕ) : Type 0 where
   pub answered : Answered
   pub lends : Lends before input after answered
   pub told : r ≡ packed (toldCall answered)
-
--- a frame's place and length fit a byte each
-abbrev pub AnswerFits : Answer → Type 0
-AnswerFits Stop = Unit {0}
-AnswerFits (InPiece l) = l < 256
-AnswerFits (InHeld p l) = (p + 2 < 256) × (l < 256)
-AnswerFits (InvalidSync b) = Unit {0}
-AnswerFits (InvalidPacketLength l) = Unit {0}
-AnswerFits (InvalidCrc calculated carried) = Unit {0}
-AnswerFits BadState = Unit {0}
-
-abbrev pub CallFits : Answered → Type 0
-CallFits a = (a .taken < 256) × AnswerFits (a .answer)

@@ -1,6 +1,6 @@
 -- Writers of frames: what they answer is told in eight bytes, and the buffer is what the frame's writer leaves.
 -- Assumes nothing.
-use Prim.Native.Nat.{ℕ, _<_}
+use Prim.Native.Nat.{ℕ, _%_}
 use mathlib.Core.List.{List}
 use lib.Dec.{eqb}
 use lib.IntN.{ℤ}
@@ -29,13 +29,13 @@ toldWritten BufferOverflow = refusal BufferOverflow
 toldWritten (ChannelRange i) = refusal (ChannelRange i)
 toldWritten BadAddress = refusal BadAddress
 
--- the count and the index fit a byte
-abbrev pub WrittenFits : Written → Type 0
-WrittenFits (Wrote n) = n < 256
-WrittenFits InvalidPayloadLength = Unit {0}
-WrittenFits BufferOverflow = Unit {0}
-WrittenFits (ChannelRange i) = i < 256
-WrittenFits BadAddress = Unit {0}
+-- with the low byte of its count or index
+abbrev pub inByte : Written → Written
+inByte (Wrote n) = Wrote (n % 256)
+inByte InvalidPayloadLength = InvalidPayloadLength
+inByte BufferOverflow = BufferOverflow
+inByte (ChannelRange i) = ChannelRange (i % 256)
+inByte BadAddress = BadAddress
 
 abbrev pub toldWrite : Written × List ℕ → ℕ × List ℕ
 toldWrite x = (packed (toldWritten (x .0)), x .1)

@@ -1,6 +1,6 @@
 // The eight bytes.
 ghost use mathlib.Core.Path.{_≡_};
-ghost use Prim.Native.Nat.{_+_, _*_, _^_, _<_};
+ghost use Prim.Native.Nat.{_+_, _*_, _^_, _%_, _<_};
 ghost use Rattle.told.specs.Answer.{packed, toldNumber, toldPlace, toldCount, toldRefusal};
 
 // What every entry answers. The eighth byte is 0. A field that an answer does not speak of is 0.
@@ -43,11 +43,11 @@ pub fn pack(t: Told) -> u64
     )
 }
 
+// The low byte of a count: the count itself in every answer that an entry gives.
 pub fn narrow(n: usize) -> u8
-    requires { ⌜ n < 256 ⌝ }
-    ensures { λ r. ⌜ r ≡ n ⌝ }
+    ensures { λ r. ⌜ r ≡ n % 256 ⌝ }
 {
-    n as u8
+    (n % 256) as u8
 }
 
 // A number, and what it carries.
@@ -82,8 +82,7 @@ pub fn placed(taken: u8, in_state: u8, at: u8, len: u8) -> Told
 
 // Only a count.
 pub fn count(n: usize) -> u64
-    requires { ⌜ n < 256 ⌝ }
-    ensures { λ r. ⌜ r ≡ packed (toldCount n) ⌝ }
+    ensures { λ r. ⌜ r ≡ packed (toldCount (n % 256)) ⌝ }
 {
     pack(placed(0, 0, 0, narrow(n)))
 }

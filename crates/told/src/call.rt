@@ -6,16 +6,18 @@ use crate::answer::said;
 use stream::step::Answer;
 use stream::step::Answered;
 ghost use mathlib.Core.Path.{_≡_};
-ghost use Rattle.told.specs.Call.{toldAnswer, toldCall, AnswerFits, CallFits};
+ghost use Rattle.told.specs.Answer.{inBytes};
+ghost use Rattle.told.specs.Call.{toldCall};
 
-fn told_answer(taken: u8, answer: Answer) -> Told
-    requires { ⌜ AnswerFits answer ⌝ }
-    ensures { λ r. ⌜ r ≡ toldAnswer taken answer ⌝ }
+pub fn told_call(answered: Answered) -> Told
+    ensures { λ r. ⌜ r ≡ inBytes (toldCall answered) ⌝ }
 {
+    let answer = answered.answer;
+    let taken = narrow(answered.taken);
     match answer {
         Answer::Stop => said(255, taken, 0, 0),
         Answer::InPiece(len) => placed(taken, 0, 0, narrow(len)),
-        Answer::InHeld { at, len } => placed(taken, 1, narrow(at + 2), narrow(len)),
+        Answer::InHeld { at, len } => placed(taken, 1, narrow(at % 256 + 2), narrow(len)),
         Answer::InvalidSync(byte) => said(1, taken, byte, 0),
         Answer::InvalidPacketLength(length) => said(2, taken, length, 0),
         Answer::InvalidCrc {
@@ -24,12 +26,4 @@ fn told_answer(taken: u8, answer: Answer) -> Told
         } => said(3, taken, calculated, carried),
         Answer::BadState => said(8, taken, 0, 0),
     }
-}
-
-pub fn told_call(answered: Answered) -> Told
-    requires { ⌜ CallFits answered ⌝ }
-    ensures { λ r. ⌜ r ≡ toldCall answered ⌝ }
-{
-    let answer = answered.answer;
-    told_answer(narrow(answered.taken), answer)
 }

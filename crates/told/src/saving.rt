@@ -4,14 +4,12 @@ use crate::answer::refuse;
 use saved::form::Restored;
 use saved::form::Saved;
 ghost use mathlib.Core.Path.{_≡_};
-ghost use Prim.Native.Nat.{_<_};
 ghost use Rattle.saved.specs.Save.{toldBySave, toldByRestore};
-ghost use Rattle.told.specs.Answer.{packed};
+ghost use Rattle.told.specs.Answer.{packed, inBytes};
 ghost use Rattle.told.specs.State.{toldState};
 
 pub fn saved_answer(saved: Saved) -> u64
-    requires { ⌜ toldBySave saved .count < 256 ⌝ }
-    ensures { λ r. ⌜ r ≡ packed (toldState (toldBySave saved)) ⌝ }
+    ensures { λ r. ⌜ r ≡ packed (inBytes (toldState (toldBySave saved))) ⌝ }
 {
     match saved {
         Saved::Wrote(n) => count(n),
@@ -21,8 +19,7 @@ pub fn saved_answer(saved: Saved) -> u64
 }
 
 pub fn restored_answer(restored: Restored) -> u64
-    requires { ⌜ toldByRestore restored .count < 256 ⌝ }
-    ensures { λ r. ⌜ r ≡ packed (toldState (toldByRestore restored)) ⌝ }
+    ensures { λ r. ⌜ r ≡ packed (inBytes (toldState (toldByRestore restored))) ⌝ }
 {
     match restored {
         Restored::Held(n) => count(n),

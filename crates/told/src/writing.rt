@@ -8,11 +8,10 @@ use layout::Written;
 use packets::is_address;
 ghost use mathlib.Core.Path.{_≡_};
 ghost use Rattle.told.specs.Answer.{packed};
-ghost use Rattle.told.specs.Write.{toldWritten, WrittenFits, refusedFor};
+ghost use Rattle.told.specs.Write.{toldWritten, inByte, refusedFor};
 
 pub fn wrote(written: Written) -> u64
-    requires { ⌜ WrittenFits written ⌝ }
-    ensures { λ r. ⌜ r ≡ packed (toldWritten written) ⌝ }
+    ensures { λ r. ⌜ r ≡ packed (toldWritten (inByte written)) ⌝ }
 {
     match written {
         Written::Wrote(n) => count(n),

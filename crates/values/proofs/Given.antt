@@ -1,19 +1,20 @@
 -- A loop that copies the first numbers of a list over those of another, one a turn, and what is given then.
 -- Assumes nothing.
-use mathlib.Core.Path.{_≡_, refl, sym, ap, _∙_}
-use mathlib.Core.List.{List, [], _∷_, _++_}
+use mathlib.Core.Path.{_≡_, sym, ap, _∙_}
+use mathlib.Core.List.{List, [], _++_}
 use Prim.Native.Nat.{ℕ, suc, _+_, _^_, _≤_, _<_}
+use native.Mathlib.Nat.{mod-eq-of-lt, min-le-right, zero-add}
 use native.Mathlib.Numerals.{add-one}
 use native.Mathlib.Omega.{arith}
 use borrow.Author.Tests.{le-leb, lt-leb, leb-true}
 use lib.Dec.{leb, lit≤, lit<}
 use lib.IntN.{ℤ, pos}
 use lib.Signed.{mag}
-use lib.ListN.{length, getD, take, drop, set}
-use lib.Seq.{drop-cons, set-at, append-snoc, take-suc, length-take-le}
+use lib.ListN.{length, getD, take, drop, set, length-take, take-append-drop}
+use lib.Seq.{drop-cons, set-at, append-snoc, take-suc, length-take-le, take-all, take-append-seam}
 use Rattle.base.specs.Bytes.{Bytes}
-use Rattle.base.specs.Parts.{part}
-use Rattle.base.proofs.Parts.{length-part, bytes-part}
+use Rattle.base.specs.Parts.{part, copied}
+use Rattle.base.proofs.Parts.{length-part, bytes-part, copied-fits}
 use Rattle.base.proofs.Tests.{by-test}
 use Rattle.numbers.specs.BigEndian.{beOf}
 use Rattle.numbers.proofs.BigEndian.{beOf-lt}
@@ -29,13 +30,22 @@ use Rattle.rpm.specs.Rpm.{rpmField, rpmRead}
 use Rattle.rpm.specs.declared.RpmRead.{RpmRead}
 use Rattle.told.specs.declared.answer.Told.{Told}
 use Rattle.told.specs.Answer.{packed, toldCount, toldRefusal}
-use Rattle.values.specs.Read.{given, gives, byAnswer, givesChannels, toldRun, givesRpm}
+use Rattle.values.specs.Read.{given, gives, keptBattery, byAnswer, givesChannels, toldRun, givesRpm}
 
 module _ {A : Type 0} (s d : List A) where
   pub copy-more : (z : A) (i : ℕ) → i < length s → i < length d → set (take i s ++ drop i d) i (getD s i z) ≡ take (i + 1) s ++ drop (i + 1) d
   copy-more z i hs hd =
       rw (drop-cons d i z hd, set-at (take i s) (getD d i z) (drop (suc i) d) (getD s i z) i (length-take-le i s (omega arith)), add-one, take-suc s i z hs)
       (sym (append-snoc (take i s) (getD s i z) (drop (suc i) d)))
+
+  take-counted : (n : ℕ) → take (length (take n s)) s ≡ take n s
+  take-counted n = ap (take (length (take n s))) (sym (take-append-drop n s)) ∙ take-append-seam (take n s) (drop n s)
+
+  -- a copy of as many as the first n are
+  pub copied-front : (n k : ℕ) → k ≡ length (take n s) → k ≤ length d → copied d 0 s k ≡ take n s ++ drop k d
+  copied-front n k e room =
+      let few : k ≤ length s = rw (e, length-take) (min-le-right n (length s)) in
+      rw (copied-fits d 0 s k (omega arith) few, zero-add, e, take-counted n)
 
   module _ (told : Told) (n : ℕ) (size : length s ≡ n) where
     pub given-all : n ≤ length d → (packed told, s ++ drop n d) ≡ given told s d
@@ -85,16 +95,18 @@ few-read payload =
 pub rpm-few : {m : RpmRead} (payload : List ℕ) → m ≡ rpmRead payload → m .rpm .count ≤ 19
 rpm-few payload e = rw e (few-read payload)
 
--- ---- Records of fixed layouts
+-- ---- Records of fixed layouts, by the number and the values that their reading answers
 
-module _ {read : Answer} (out : List ℤ) where
-  pub fixed-given : (vs : List ℤ) (n : ℕ) → length vs ≡ n → read ≡ (0, vs) → given (toldCount n) vs out ≡ gives read out
+module _ {M : Type 0} (answerOf : M → Answer) (out : List ℤ) {m : M} {read : Answer} (reads : answerOf m ≡ read) where
+  pub fixed-given : {x : M} {ws vs : List ℤ} {told : Told} {n : ℕ} {gave : ℕ × List ℤ} → m ≡ x → answerOf x ≡ (0, ws) → length ws ≡ n
+      → vs ≡ ws → told ≡ toldCount n → gave ≡ given told (take n vs) out → gave ≡ gives read out
   unfolding gives
-  fixed-given vs n size e = rw (e, size)
+  fixed-given {ws = ws} {n = n} known is size same tells gives =
+      gives ∙ rw (same, tells, take-all n ws (omega arith), ← reads, known, is, size)
 
-  pub fixed-refused : read ≡ (4, []) → (packed (toldRefusal 4), out) ≡ gives read out
+  pub fixed-refused : {x : M} {r : ℕ} → m ≡ x → answerOf x ≡ (4, []) → r ≡ packed (toldRefusal 4) → (r, out) ≡ gives read out
   unfolding gives
-  fixed-refused e = rw e
+  fixed-refused known is refuses = rw (refuses, ← reads, known, is)
 
 -- the capacity that a battery record reads as has 24 bits
 capacity-bound : (payload : List ℕ) → Bytes payload → 7 ≤ length payload → beOf (part payload 4 3) < 2 ^ 24
@@ -111,6 +123,9 @@ third-fits payload b =
     (λ u. simp (t, u) (capacity-bound payload b (omega (arith, leb-true 8 (length payload) u))))
     (λ u. simp (t, u) (lit< tt)))
 
-pub capacity-fits : (payload : List ℕ) (x : Battery) → Bytes payload → batteryRead payload ≡ (0, batteryValues x) → x .«capacity_used» < 2 ^ 24
+capacity-fits : (payload : List ℕ) (x : Battery) → Bytes payload → batteryRead payload ≡ (0, batteryValues x) → x .«capacity_used» < 2 ^ 24
 unfolding batteryValues
 capacity-fits payload x b e = rw (sym (ap (λ (a : Answer). mag (getD (a .1) 2 (pos 0))) e)) (third-fits payload b)
+
+pub battery-kept : (payload : List ℕ) (x : Battery) → Bytes payload → batteryRead payload ≡ (0, batteryValues x) → keptBattery x ≡ x
+battery-kept payload x b e = rw (mod-eq-of-lt (capacity-fits payload x b e))

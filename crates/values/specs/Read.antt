@@ -1,6 +1,6 @@
 -- Readers of payloads: a record's numbers go to the front of a lent slice, and are told in eight bytes.
 -- Assumes nothing.
-use Prim.Native.Nat.{ℕ}
+use Prim.Native.Nat.{ℕ, _^_, _%_}
 use mathlib.Core.List.{List, _++_}
 use lib.Dec.{eqb, leb}
 use lib.IntN.{ℤ}
@@ -9,6 +9,7 @@ use Rattle.base.specs.Choice.{if_then_else_}
 use Rattle.layout.specs.declared.ReadAnswer.{ReadAnswer}
 use Rattle.layout.specs.declared.ReadAnswer.the-variants.{Record, InvalidPayloadLength}
 use Rattle.fields.specs.Answer.{Answer}
+use Rattle.records.specs.declared.battery.Battery.{Battery}
 use Rattle.channels.specs.declared.ChannelsRead.{ChannelsRead}
 use Rattle.rpm.specs.declared.RpmRead.{RpmRead}
 use Rattle.told.specs.declared.answer.Told.{Told}
@@ -22,6 +23,16 @@ given told vs out =
 -- a record of a fixed layout, by the number and the values of its reading
 unfoldable pub gives : Answer → List ℤ → ℕ × List ℤ
 gives read out = if eqb (read .0) 0 then given (toldCount (length (read .1))) (read .1) out else (packed (toldRefusal (read .0)), out)
+
+-- a battery with the low 24 bits of its capacity, as writing keeps it
+abbrev pub keptBattery : Battery → Battery
+keptBattery x = record {
+  voltage = x .voltage;
+  current = x .current;
+  «capacity_used» = x .«capacity_used» % 2 ^ 24;
+  remaining = x .remaining;
+  id = x .id;
+}
 
 -- what an answer beside a record says
 abbrev pub byAnswer : {A : Type 0} → ReadAnswer → ℕ × List A → List A → ℕ × List A

@@ -1,4 +1,5 @@
 // The numbers of a record, at the front of a lent slice.
+use base::copy_numbers;
 use channels::RcChannelsPacked;
 use positions::gps::Gps;
 use positions::gps_extended::GpsExtended;
@@ -11,7 +12,7 @@ use told::answer::pack;
 use told::answer::refuse;
 ghost use mathlib.Core.Path.{_≡_};
 ghost use mathlib.Core.List.{_++_};
-ghost use Prim.Native.Nat.{_^_, _≤_, _<_};
+ghost use Prim.Native.Nat.{_≤_};
 ghost use lib.ListN.{length, take, drop};
 ghost use Rattle.positions.specs.Gps.{gpsValues};
 ghost use Rattle.positions.specs.GpsExtended.{gpsExtendedValues};
@@ -19,29 +20,27 @@ ghost use Rattle.records.specs.LinkStatistics.{linkStatisticsValues};
 ghost use Rattle.records.specs.Battery.{batteryValues};
 ghost use Rattle.records.specs.BaroAltitude.{baroAltitudeValues};
 ghost use Rattle.told.specs.Answer.{toldCount};
-ghost use Rattle.values.specs.Read.{given, toldRun};
+ghost use Rattle.values.specs.Read.{given, keptBattery, toldRun};
 
-fn copy_numbers(out: &mut [i32], values: &[i32], n: usize)
-    requires { ⌜ (n ≤ length (now out)) × (n ≤ length (now values)) ⌝ }
-    ensures { λ _. ⌜ now (out .exit) ≡ take n (now (values .entry)) ++ drop n (now (out .entry)) ⌝ }
+// How many values the first n are: n, or all that there are.
+fn at_most(values: &[i32], n: usize) -> usize
+    ensures { λ r. ⌜ r ≡ length (take n (now (values .entry))) ⌝ }
 {
-    let mut i = 0;
-    while i < n {
-        let v = values[i];
-        out[i] = v;
-        i += 1;
+    if values.len() < n {
+        return values.len();
     }
+    n
 }
 
 // The first n of the values, and what is told of them.
 pub fn give(told: Told, values: &[i32], n: usize, out: &mut [i32]) -> u64
-    requires { ⌜ n ≤ length (now values) ⌝ }
     ensures { λ r. ⌜ (r, now (out .exit)) ≡ given told (take n (now (values .entry))) (now (out .entry)) ⌝ }
 {
-    if out.len() < n {
+    let count = at_most(values, n);
+    if out.len() < count {
         return refuse(5);
     }
-    copy_numbers(out, values, n);
+    copy_numbers(out, values, count);
     pack(told)
 }
 
@@ -95,13 +94,12 @@ pub fn gps_extended_values(x: GpsExtended) -> [i32; 12]
 }
 
 pub fn battery_values(x: Battery) -> [i32; 5]
-    requires { ⌜ x .«capacity_used» < 2 ^ 24 ⌝ }
-    ensures { λ r. ⌜ r ≡ batteryValues x ⌝ }
+    ensures { λ r. ⌜ r ≡ batteryValues (keptBattery x) ⌝ }
 {
     [
         x.voltage as i32,
         x.current as i32,
-        x.capacity_used as i32,
+        (x.capacity_used % 0x100_0000) as i32,
         x.remaining as i32,
         x.id as i32,
     ]

@@ -1,5 +1,4 @@
 -- `values::gps_extended_values` meets its contract. Assumes nothing.
-use mathlib.Core.Path.{_≡_}
 use Prim.Native.Nat.{_<_}
 use lib.Dec.{lit≤}
 use mir.Syntax.{w16, w32}

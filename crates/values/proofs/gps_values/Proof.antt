@@ -1,7 +1,5 @@
 -- `values::gps_values` meets its contract. Assumes nothing.
-use mathlib.Core.Path.{_≡_}
 use Prim.Native.Nat.{_<_}
-use lib.Dec.{lit≤}
 use mir.Syntax.{w32}
 use mir.Val.{SFits}
 use mir.ValLaws.{toZ-ofZ, toZ-pos}

@@ -1,12 +1,6 @@
 -- `host::read::crsf_read_baro_altitude` meets its contract. Assumes nothing.
-use mathlib.Core.Path.{refl, sym, ap, ap₂, _∙_}
-use mathlib.Core.List.{List}
-use Prim.Native.Nat.{ℕ}
-use lib.IntN.{ℤ}
-use lib.ListN.{take}
+use mathlib.Core.Path.{refl}
 use Rattle.records.specs.BaroAltitude.{baroAltitudeValues, baroAltitudeAnswer}
-use Rattle.told.specs.declared.answer.Told.{Told}
-use Rattle.values.specs.Read.{given}
 use Rattle.values.proofs.Given.{fixed-given, fixed-refused}
 use borrow.Author.Needs.{needs}
 use Rattle.host.proofs.read.crsf_read_baro_altitude.Statement.{statement}
@@ -46,19 +40,15 @@ returns c =
     let made = gave .before .before .before in
     let told = made .before .before .before in
     let read = told .before .before in
-    let a = read .before .before .args in
-    gave .give .ensures
-    ∙ ap₂ (λ (t : Told) (vs : List ℤ). given t (take 2 vs) (a .out .now)) (made .placed .ensures) (made .before .baro-altitude-values .ensures)
-    ∙ fixed-given (a .out .now) (baroAltitudeValues (told .read .given .0 .0)) 2 refl (sym (read .from-bytes .ensures) ∙ ap baroAltitudeAnswer (told .read .given .1))
+    fixed-given baroAltitudeAnswer (read .before .before .args .out .now) (read .from-bytes .ensures) (told .read .given .1) refl refl (made .before .baro-altitude-values .ensures)
+    (made .placed .ensures) (gave .give .ensures)
 
 returns-2 : tie.Need-returns-2
 unfolding baroAltitudeAnswer
 returns-2 c =
     let told = c .before in
     let read = told .before .before in
-    let a = read .before .before .args in
-    ap (λ (r : ℕ). (r, a .out .now)) (c .refuse .ensures)
-    ∙ fixed-refused (a .out .now) (sym (read .from-bytes .ensures) ∙ ap baroAltitudeAnswer (told .enum-told .given .1))
+    fixed-refused baroAltitudeAnswer (read .before .before .args .out .now) (read .from-bytes .ensures) (told .enum-told .given .1) refl (c .refuse .ensures)
 
 pub crsf-read-baro-altitude-spec : {M : Type 1} → statement M
 crsf-read-baro-altitude-spec =

@@ -1,14 +1,9 @@
 -- `host::read::crsf_read_battery` meets its contract. Assumes nothing.
-use mathlib.Core.Path.{refl, sym, ap, ap₂, _∙_}
-use mathlib.Core.List.{List}
+use mathlib.Core.Path.{refl, sym, ap, _∙_}
 use Prim.Native.Nat.{ℕ}
 use native.Mathlib.Omega.{arith}
-use lib.IntN.{ℤ}
-use lib.ListN.{take}
 use Rattle.records.specs.Battery.{batteryValues, batteryAnswer}
-use Rattle.told.specs.declared.answer.Told.{Told}
-use Rattle.values.specs.Read.{given}
-use Rattle.values.proofs.Given.{fixed-given, fixed-refused, capacity-fits}
+use Rattle.values.proofs.Given.{fixed-given, fixed-refused, battery-kept}
 use borrow.Author.Needs.{needs}
 use Rattle.host.proofs.read.crsf_read_battery.Statement.{statement}
 use Rattle.host.proofs.read.crsf_read_battery.Tie as tie
@@ -20,12 +15,7 @@ enum-known-read : tie.Need-enum-known-read
 enum-known-read c = search needs
 
 battery-values-requires : tie.Need-battery-values-requires
-unfolding batteryAnswer
-battery-values-requires c κs =
-    let told = c .before in
-    let read = told .before .before in
-    capacity-fits (read .before .before .args .payload .now) (told .read .given .0 .0) (λ (i : ℕ). omega (arith, read .before .shared-slice-known .given i))
-    (sym (read .from-bytes .ensures) ∙ ap batteryAnswer (told .read .given .1))
+battery-values-requires c κs = search needs
 
 placed-requires : tie.Need-placed-requires
 placed-requires c κs = search needs
@@ -53,18 +43,18 @@ returns c =
     let told = made .before .before .before in
     let read = told .before .before in
     let a = read .before .before .args in
-    gave .give .ensures
-    ∙ ap₂ (λ (t : Told) (vs : List ℤ). given t (take 5 vs) (a .out .now)) (made .placed .ensures) (made .before .battery-values .ensures)
-    ∙ fixed-given (a .out .now) (batteryValues (told .read .given .0 .0)) 5 refl (sym (read .from-bytes .ensures) ∙ ap batteryAnswer (told .read .given .1))
+    let kept =
+    battery-kept (a .payload .now) (told .read .given .0 .0) (λ (i : ℕ). omega (arith, read .before .shared-slice-known .given i))
+    (sym (read .from-bytes .ensures) ∙ ap batteryAnswer (told .read .given .1)) in
+    fixed-given batteryAnswer (a .out .now) (read .from-bytes .ensures) (told .read .given .1) refl refl (made .before .battery-values .ensures ∙ ap batteryValues kept)
+    (made .placed .ensures) (gave .give .ensures)
 
 returns-2 : tie.Need-returns-2
 unfolding batteryAnswer
 returns-2 c =
     let told = c .before in
     let read = told .before .before in
-    let a = read .before .before .args in
-    ap (λ (r : ℕ). (r, a .out .now)) (c .refuse .ensures)
-    ∙ fixed-refused (a .out .now) (sym (read .from-bytes .ensures) ∙ ap batteryAnswer (told .enum-told .given .1))
+    fixed-refused batteryAnswer (read .before .before .args .out .now) (read .from-bytes .ensures) (told .enum-told .given .1) refl (c .refuse .ensures)
 
 pub crsf-read-battery-spec : {M : Type 1} → statement M
 crsf-read-battery-spec =

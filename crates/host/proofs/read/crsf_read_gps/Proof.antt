@@ -1,12 +1,6 @@
 -- `host::read::crsf_read_gps` meets its contract. Assumes nothing.
-use mathlib.Core.Path.{refl, sym, ap, ap₂, _∙_}
-use mathlib.Core.List.{List}
-use Prim.Native.Nat.{ℕ}
-use lib.IntN.{ℤ}
-use lib.ListN.{take}
+use mathlib.Core.Path.{refl}
 use Rattle.positions.specs.Gps.{gpsValues, gpsAnswer}
-use Rattle.told.specs.declared.answer.Told.{Told}
-use Rattle.values.specs.Read.{given}
 use Rattle.values.proofs.Given.{fixed-given, fixed-refused}
 use borrow.Author.Needs.{needs}
 use Rattle.host.proofs.read.crsf_read_gps.Statement.{statement}
@@ -46,19 +40,15 @@ returns c =
     let made = gave .before .before .before in
     let told = made .before .before .before in
     let read = told .before .before in
-    let a = read .before .before .args in
-    gave .give .ensures
-    ∙ ap₂ (λ (t : Told) (vs : List ℤ). given t (take 6 vs) (a .out .now)) (made .placed .ensures) (made .before .gps-values .ensures)
-    ∙ fixed-given (a .out .now) (gpsValues (told .read .given .0 .0)) 6 refl (sym (read .from-bytes .ensures) ∙ ap gpsAnswer (told .read .given .1))
+    fixed-given gpsAnswer (read .before .before .args .out .now) (read .from-bytes .ensures) (told .read .given .1) refl refl (made .before .gps-values .ensures)
+    (made .placed .ensures) (gave .give .ensures)
 
 returns-2 : tie.Need-returns-2
 unfolding gpsAnswer
 returns-2 c =
     let told = c .before in
     let read = told .before .before in
-    let a = read .before .before .args in
-    ap (λ (r : ℕ). (r, a .out .now)) (c .refuse .ensures)
-    ∙ fixed-refused (a .out .now) (sym (read .from-bytes .ensures) ∙ ap gpsAnswer (told .enum-told .given .1))
+    fixed-refused gpsAnswer (read .before .before .args .out .now) (read .from-bytes .ensures) (told .enum-told .given .1) refl (c .refuse .ensures)
 
 pub crsf-read-gps-spec : {M : Type 1} → statement M
 crsf-read-gps-spec =

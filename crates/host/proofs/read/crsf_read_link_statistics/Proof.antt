@@ -1,12 +1,6 @@
 -- `host::read::crsf_read_link_statistics` meets its contract. Assumes nothing.
-use mathlib.Core.Path.{refl, sym, ap, ap₂, _∙_}
-use mathlib.Core.List.{List}
-use Prim.Native.Nat.{ℕ}
-use lib.IntN.{ℤ}
-use lib.ListN.{take}
+use mathlib.Core.Path.{refl}
 use Rattle.records.specs.LinkStatistics.{linkStatisticsValues, linkStatisticsAnswer}
-use Rattle.told.specs.declared.answer.Told.{Told}
-use Rattle.values.specs.Read.{given}
 use Rattle.values.proofs.Given.{fixed-given, fixed-refused}
 use borrow.Author.Needs.{needs}
 use Rattle.host.proofs.read.crsf_read_link_statistics.Statement.{statement}
@@ -46,19 +40,15 @@ returns c =
     let made = gave .before .before .before in
     let told = made .before .before .before in
     let read = told .before .before in
-    let a = read .before .before .args in
-    gave .give .ensures
-    ∙ ap₂ (λ (t : Told) (vs : List ℤ). given t (take 10 vs) (a .out .now)) (made .placed .ensures) (made .before .link-statistics-values .ensures)
-    ∙ fixed-given (a .out .now) (linkStatisticsValues (told .read .given .0 .0)) 10 refl (sym (read .from-bytes .ensures) ∙ ap linkStatisticsAnswer (told .read .given .1))
+    fixed-given linkStatisticsAnswer (read .before .before .args .out .now) (read .from-bytes .ensures) (told .read .given .1) refl refl (made .before .link-statistics-values .ensures)
+    (made .placed .ensures) (gave .give .ensures)
 
 returns-2 : tie.Need-returns-2
 unfolding linkStatisticsAnswer
 returns-2 c =
     let told = c .before in
     let read = told .before .before in
-    let a = read .before .before .args in
-    ap (λ (r : ℕ). (r, a .out .now)) (c .refuse .ensures)
-    ∙ fixed-refused (a .out .now) (sym (read .from-bytes .ensures) ∙ ap linkStatisticsAnswer (told .enum-told .given .1))
+    fixed-refused linkStatisticsAnswer (read .before .before .args .out .now) (read .from-bytes .ensures) (told .enum-told .given .1) refl (c .refuse .ensures)
 
 pub crsf-read-link-statistics-spec : {M : Type 1} → statement M
 crsf-read-link-statistics-spec =

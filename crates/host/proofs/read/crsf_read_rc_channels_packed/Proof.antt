@@ -1,5 +1,5 @@
 -- `host::read::crsf_read_rc_channels_packed` meets its contract. Assumes nothing.
-use mathlib.Core.Path.{_≡_, ap, ap₂, _∙_}
+use mathlib.Core.Path.{ap, _∙_}
 use Prim.Native.Nat.{ℕ}
 use Rattle.values.proofs.Given.{channels-given, channels-refused}
 use borrow.Author.Needs.{needs}

@@ -1,10 +1,9 @@
 -- `host::read::crsf_read_rpm` meets its contract. Assumes nothing.
-use mathlib.Core.Path.{_≡_, ap, ap₂, _∙_}
-use mathlib.Core.List.{List}
-use Prim.Native.Nat.{ℕ}
-use lib.IntN.{ℤ}
+use mathlib.Core.Path.{ap, _∙_}
+use Prim.Native.Nat.{ℕ, _<_}
+use native.Mathlib.Nat.{mod-eq-of-lt}
 use native.Mathlib.Omega.{arith}
-use lib.ListN.{length, take}
+use lib.ListN.{take}
 use Rattle.told.specs.declared.answer.Told.{Told}
 use Rattle.values.specs.Read.{given, toldRun}
 use Rattle.values.proofs.Given.{rpm-given, rpm-refused, rpm-few}
@@ -19,9 +18,7 @@ enum-told : tie.Need-enum-told
 enum-told c = search needs
 
 narrow-requires : tie.Need-narrow-requires
-narrow-requires c κs =
-    let read = c .before .before .before .before in
-    omega (arith, rpm-few (read .before .before .args .payload .now) (read .from-bytes .ensures))
+narrow-requires c κs = search needs
 
 run-requires : tie.Need-run-requires
 run-requires c κs = search needs
@@ -30,10 +27,7 @@ slice-aggregate-give : tie.Need-slice-aggregate-give
 slice-aggregate-give c = search needs
 
 give-requires : tie.Need-give-requires
-give-requires c κs =
-    let read = c .before .before .before .before .before .before .before .before in
-    let long : length (read .from-bytes .result .rpm .«rpm_values») ≡ 19 = search needs in
-    omega (arith, rpm-few (read .before .before .args .payload .now) (read .from-bytes .ensures))
+give-requires c κs = search needs
 
 enum-told-2 : tie.Need-enum-told-2
 enum-told-2 c = search needs
@@ -52,8 +46,9 @@ returns c =
     let read = told .before .before .before in
     let a = read .before .before .args in
     let rpm = read .from-bytes .result .rpm in
+    let few : rpm .count < 256 = omega (arith, rpm-few (a .payload .now) (read .from-bytes .ensures)) in
     gave .give .ensures
-    ∙ ap (λ (t : Told). given t (take (rpm .count) (rpm .«rpm_values»)) (a .out .now)) (made .run .ensures ∙ ap (λ (n : ℕ). toldRun n (rpm .«rpm_source_id»)) (made .before .narrow .ensures))
+    ∙ ap (λ (t : Told). given t (take (rpm .count) (rpm .«rpm_values»)) (a .out .now)) (made .run .ensures ∙ ap (λ (n : ℕ). toldRun n (rpm .«rpm_source_id»)) (made .before .narrow .ensures ∙ mod-eq-of-lt few))
     ∙ rpm-given (a .payload .now) (a .out .now) (read .from-bytes .ensures) (told .enum-told .given .1)
 
 returns-2 : tie.Need-returns-2

@@ -1,7 +1,7 @@
 -- `host::state::crsf_next_raw_packet` meets its contract. Assumes nothing.
 use mathlib.Core.Path.{_∙_, ap}
 use Rattle.told.specs.Answer.{packed}
-use Rattle.told.proofs.Fits.{call-fits}
+use Rattle.told.proofs.Fits.{in-bytes, call-fits}
 use borrow.Author.Needs.{needs}
 use Rattle.host.proofs.state.crsf_next_raw_packet.Statement.{statement}
 use Rattle.host.proofs.state.crsf_next_raw_packet.Tie as tie
@@ -10,7 +10,7 @@ step-lent-requires : tie.Need-step-lent-requires
 step-lent-requires c κs = search needs
 
 told-call-requires : tie.Need-told-call-requires
-told-call-requires c κs = call-fits (c .before .before .step-lent .ensures)
+told-call-requires c κs = search needs
 
 pack-requires : tie.Need-pack-requires
 pack-requires c κs = search needs
@@ -24,7 +24,7 @@ returns c =
     record {
       answered = call .step-lent .result;
       lends = call .step-lent .ensures;
-      told = c .pack .ensures ∙ ap packed (c .before .told-call .ensures);
+      told = c .pack .ensures ∙ ap packed (c .before .told-call .ensures ∙ in-bytes _ (call-fits (call .step-lent .ensures)));
     }
 
 pub crsf-next-raw-packet-spec : {M : Type 1} → statement M

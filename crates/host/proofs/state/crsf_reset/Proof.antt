@@ -1,5 +1,5 @@
 -- `host::state::crsf_reset` meets its contract. Assumes nothing.
-use Rattle.told.proofs.Saves.{reset-fits, told-fits, told-on}
+use Rattle.told.proofs.Saves.{reset-fits, told-on}
 use borrow.Author.Needs.{needs}
 use Rattle.host.proofs.state.crsf_reset.Statement.{statement}
 use Rattle.host.proofs.state.crsf_reset.Tie as tie
@@ -8,13 +8,13 @@ reset-lent-requires : tie.Need-reset-lent-requires
 reset-lent-requires c κs = search needs
 
 restored-answer-requires : tie.Need-restored-answer-requires
-restored-answer-requires c κs = told-fits (c .before .before .reset-lent .ensures) (reset-fits _)
+restored-answer-requires c κs = search needs
 
 same-length : tie.Need-same-length
 same-length c = search needs
 
 returns : tie.Need-returns
-returns c = told-on (c .before .before .before .reset-lent .ensures) (c .restored-answer .ensures)
+returns c = told-on (c .before .before .before .reset-lent .ensures) (reset-fits _) (c .restored-answer .ensures)
 
 pub crsf-reset-spec : {M : Type 1} → statement M
 crsf-reset-spec =

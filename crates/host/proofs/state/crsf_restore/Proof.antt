@@ -1,5 +1,5 @@
 -- `host::state::crsf_restore` meets its contract. Assumes nothing.
-use Rattle.told.proofs.Saves.{restore-fits, told-fits, told-on}
+use Rattle.told.proofs.Saves.{restore-fits, told-on}
 use borrow.Author.Needs.{needs}
 use Rattle.host.proofs.state.crsf_restore.Statement.{statement}
 use Rattle.host.proofs.state.crsf_restore.Tie as tie
@@ -8,13 +8,13 @@ restore-lent-requires : tie.Need-restore-lent-requires
 restore-lent-requires c κs = search needs
 
 restored-answer-requires : tie.Need-restored-answer-requires
-restored-answer-requires c κs = told-fits (c .before .before .restore-lent .ensures) (restore-fits _ _)
+restored-answer-requires c κs = search needs
 
 same-length : tie.Need-same-length
 same-length c = search needs
 
 returns : tie.Need-returns
-returns c = told-on (c .before .before .before .restore-lent .ensures) (c .restored-answer .ensures)
+returns c = told-on (c .before .before .before .restore-lent .ensures) (restore-fits _ _) (c .restored-answer .ensures)
 
 pub crsf-restore-spec : {M : Type 1} → statement M
 crsf-restore-spec =

@@ -1,5 +1,5 @@
 -- `host::state::crsf_save` meets its contract. Assumes nothing.
-use Rattle.told.proofs.Saves.{save-fits, told-fits, told-on}
+use Rattle.told.proofs.Saves.{save-fits, told-on}
 use borrow.Author.Needs.{needs}
 use Rattle.host.proofs.state.crsf_save.Statement.{statement}
 use Rattle.host.proofs.state.crsf_save.Tie as tie
@@ -8,13 +8,13 @@ save-lent-requires : tie.Need-save-lent-requires
 save-lent-requires c κs = search needs
 
 saved-answer-requires : tie.Need-saved-answer-requires
-saved-answer-requires c κs = told-fits (c .before .before .save-lent .ensures) (save-fits _ _)
+saved-answer-requires c κs = search needs
 
 same-length : tie.Need-same-length
 same-length c = search needs
 
 returns : tie.Need-returns
-returns c = told-on (c .before .before .before .save-lent .ensures) (c .saved-answer .ensures)
+returns c = told-on (c .before .before .before .save-lent .ensures) (save-fits _ _) (c .saved-answer .ensures)
 
 pub crsf-save-spec : {M : Type 1} → statement M
 crsf-save-spec = tie.close (tie.spec save-lent-requires saved-answer-requires same-length returns)

@@ -1,32 +1,31 @@
 -- `host::write::crsf_write_battery` meets its contract. Assumes nothing.
 use Rattle.records.specs.declared.battery.Battery.{Battery}
 use Rattle.frames.proofs.Fits.{battery-small}
-use Rattle.told.proofs.Writes.{frame-fits, frame-told}
+use Rattle.told.proofs.Writes.{frame-told}
 use mir.Syntax.{w16}
 use mir.Val.{toZ, ofZ}
 use mir.ValLaws.{toZ-ofZ}
 use borrow.Author.Needs.{needs}
 use Rattle.host.proofs.write.crsf_write_battery.Statement.{statement}
 use Rattle.host.proofs.write.crsf_write_battery.Tie as tie
-use Rattle.records.specs.declared.battery.Battery.{Battery}
 
 write-battery-requires : tie.Need-write-battery-requires
 write-battery-requires c κs = search needs
 
 wrote-requires : tie.Need-wrote-requires
-wrote-requires c κs =
-    let a = c .before .before .before .before .before .args in
-    let packet : Battery =
-    record { voltage = toZ w16 (ofZ w16 (a .voltage)); current = toZ w16 (ofZ w16 (a .current)); «capacity_used» = a .capacity-used; remaining = a .remaining; id = a .id } in
-    frame-fits _ _ _ _ (c .before .before .write-battery .ensures) (battery-small packet) tt
+wrote-requires c κs = search needs
 
 same-length : tie.Need-same-length
 same-length c = search needs
 
 returns : tie.Need-returns
 returns c =
-    let fits = c .before .before .before .before .before .before .fits in
-    simp (toZ-ofZ w16 _ (fits .voltage), toZ-ofZ w16 _ (fits .current)) at (frame-told _ _ _ _ (c .before .before .before .write-battery .ensures) (c .wrote .ensures))
+    let start = c .before .before .before .before .before .before in
+    let fits = start .fits in
+    let a = start .args in
+    let packet : Battery =
+    record { voltage = toZ w16 (ofZ w16 (a .voltage)); current = toZ w16 (ofZ w16 (a .current)); «capacity_used» = a .capacity-used; remaining = a .remaining; id = a .id } in
+    simp (toZ-ofZ w16 _ (fits .voltage), toZ-ofZ w16 _ (fits .current)) at (frame-told _ _ _ _ (c .before .before .before .write-battery .ensures) (battery-small packet) tt (c .wrote .ensures))
 
 pub crsf-write-battery-spec : {M : Type 1} → statement M
 crsf-write-battery-spec =

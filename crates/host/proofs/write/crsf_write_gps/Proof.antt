@@ -1,6 +1,6 @@
 -- `host::write::crsf_write_gps` meets its contract. Assumes nothing.
 use Rattle.frames.proofs.Fits.{gps-small}
-use Rattle.told.proofs.Writes.{frame-fits, frame-told}
+use Rattle.told.proofs.Writes.{frame-told}
 use mir.Syntax.{w32}
 use mir.ValLaws.{toZ-ofZ}
 use borrow.Author.Needs.{needs}
@@ -11,7 +11,7 @@ write-gps-requires : tie.Need-write-gps-requires
 write-gps-requires c κs = search needs
 
 wrote-requires : tie.Need-wrote-requires
-wrote-requires c κs = frame-fits _ _ _ _ (c .before .before .write-gps .ensures) (gps-small _) tt
+wrote-requires c κs = search needs
 
 same-length : tie.Need-same-length
 same-length c = search needs
@@ -19,7 +19,7 @@ same-length c = search needs
 returns : tie.Need-returns
 returns c =
     let fits = c .before .before .before .before .before .before .fits in
-    simp (toZ-ofZ w32 _ (fits .latitude), toZ-ofZ w32 _ (fits .longitude)) at (frame-told _ _ _ _ (c .before .before .before .write-gps .ensures) (c .wrote .ensures))
+    simp (toZ-ofZ w32 _ (fits .latitude), toZ-ofZ w32 _ (fits .longitude)) at (frame-told _ _ _ _ (c .before .before .before .write-gps .ensures) (gps-small _) tt (c .wrote .ensures))
 
 pub crsf-write-gps-spec : {M : Type 1} → statement M
 crsf-write-gps-spec = tie.close (tie.spec write-gps-requires wrote-requires same-length returns)

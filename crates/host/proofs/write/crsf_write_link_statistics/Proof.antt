@@ -1,6 +1,6 @@
 -- `host::write::crsf_write_link_statistics` meets its contract. Assumes nothing.
 use Rattle.frames.proofs.Fits.{link-statistics-small}
-use Rattle.told.proofs.Writes.{frame-fits, frame-told}
+use Rattle.told.proofs.Writes.{frame-told}
 use mir.Syntax.{w8}
 use mir.ValLaws.{toZ-ofZ}
 use borrow.Author.Needs.{needs}
@@ -11,7 +11,7 @@ write-link-statistics-requires : tie.Need-write-link-statistics-requires
 write-link-statistics-requires c κs = search needs
 
 wrote-requires : tie.Need-wrote-requires
-wrote-requires c κs = frame-fits _ _ _ _ (c .before .before .write-link-statistics .ensures) (link-statistics-small _) tt
+wrote-requires c κs = search needs
 
 same-length : tie.Need-same-length
 same-length c = search needs
@@ -19,7 +19,7 @@ same-length c = search needs
 returns : tie.Need-returns
 returns c =
     let fits = c .before .before .before .before .before .before .fits in
-    simp (toZ-ofZ w8 _ (fits .uplink-snr), toZ-ofZ w8 _ (fits .downlink-snr)) at (frame-told _ _ _ _ (c .before .before .before .write-link-statistics .ensures) (c .wrote .ensures))
+    simp (toZ-ofZ w8 _ (fits .uplink-snr), toZ-ofZ w8 _ (fits .downlink-snr)) at (frame-told _ _ _ _ (c .before .before .before .write-link-statistics .ensures) (link-statistics-small _) tt (c .wrote .ensures))
 
 pub crsf-write-link-statistics-spec : {M : Type 1} → statement M
 crsf-write-link-statistics-spec =

@@ -1,12 +1,11 @@
 -- `host::write::crsf_write_rc_channels_packed` meets its contract. Assumes nothing.
-use mathlib.Core.Path.{sym, ap, _∙_}
-use mathlib.Core.List.{List}
+use mathlib.Core.Path.{refl, sym, ap, _∙_}
 use Rattle.layout.specs.Writing.{Image}
 use Rattle.layout.specs.declared.Written.{Written}
 use Rattle.channels.specs.Channels.{channelsImage}
 use Rattle.frames.proofs.Fits.{channels-small}
-use Rattle.told.specs.Write.{WrittenFits, frames}
-use Rattle.told.proofs.Writes.{frame-fits, frame-told, channels-index, no-record, no-record-fits, is-sixteen, not-sixteen}
+use Rattle.told.specs.Write.{frames}
+use Rattle.told.proofs.Writes.{frame-told, channels-index, no-record, is-sixteen, not-sixteen}
 use borrow.Author.Needs.{needs}
 use Rattle.host.proofs.write.crsf_write_rc_channels_packed.Statement.{statement}
 use Rattle.host.proofs.write.crsf_write_rc_channels_packed.Tie as tie
@@ -15,13 +14,13 @@ no-record-requires : tie.Need-no-record-requires
 no-record-requires c κs = search needs
 
 wrote-requires : tie.Need-wrote-requires
-wrote-requires c κs = rw (c .no-record .ensures) (no-record-fits _)
+wrote-requires c κs = search needs
 
 returns : tie.Need-returns
 returns c =
     let test = c .before .before in
     let a = test .before .before .before .args in
-    frame-told _ _ _ _ (ap (λ (w : Written). (w, a .buffer .now)) (c .before .no-record .ensures) ∙ no-record (a .dest) 0x16 (a .buffer .now)) (c .wrote .ensures)
+    frame-told _ _ _ _ (ap (λ (w : Written). (w, a .buffer .now)) (c .before .no-record .ensures) ∙ no-record (a .dest) 0x16 (a .buffer .now)) tt refl (c .wrote .ensures)
     ∙ ap (λ (i : Image). frames (a .dest) 0x16 i (a .buffer .now)) (sym (not-sixteen (a .channels .now) (test .if1 .taken)))
 
 sixteen-requires : tie.Need-sixteen-requires
@@ -31,7 +30,7 @@ write-rc-channels-packed-requires : tie.Need-write-rc-channels-packed-requires
 write-rc-channels-packed-requires c κs = search needs
 
 wrote-requires-2 : tie.Need-wrote-requires-2
-wrote-requires-2 c κs = frame-fits _ _ _ _ (c .before .before .write-rc-channels-packed .ensures) (channels-small _) (channels-index _)
+wrote-requires-2 c κs = search needs
 
 same-length : tie.Need-same-length
 same-length c = search needs
@@ -41,7 +40,7 @@ returns-2 c =
     let sent = c .before .before .before in
     let test = sent .before .before .before in
     let a = test .before .before .before .args in
-    frame-told _ _ _ _ (sent .write-rc-channels-packed .ensures) (c .wrote2 .ensures)
+    frame-told _ _ _ _ (sent .write-rc-channels-packed .ensures) (channels-small _) (channels-index _) (c .wrote2 .ensures)
     ∙ ap (λ (i : Image). frames (a .dest) 0x16 i (a .buffer .now))
     (ap channelsImage (sent .before .sixteen .ensures) ∙ sym (is-sixteen (a .channels .now) (test .if1 .left)))
 

@@ -1,11 +1,10 @@
 -- `host::write::crsf_write_rpm` meets its contract. Assumes nothing.
-use mathlib.Core.Path.{sym, ap, _∙_}
-use mathlib.Core.List.{List}
+use mathlib.Core.Path.{refl, ap, _∙_}
 use Rattle.layout.specs.Writing.{Image}
 use Rattle.layout.specs.declared.Written.{Written}
 use Rattle.frames.proofs.Fits.{rpm-small}
-use Rattle.told.specs.Write.{WrittenFits, frames}
-use Rattle.told.proofs.Writes.{frame-fits, frame-told, rpm-index, no-record, no-record-fits, new-record, new-refused}
+use Rattle.told.specs.Write.{frames}
+use Rattle.told.proofs.Writes.{frame-told, rpm-index, no-record, new-record, new-refused}
 use borrow.Author.Needs.{needs}
 use Rattle.host.proofs.write.crsf_write_rpm.Statement.{statement}
 use Rattle.host.proofs.write.crsf_write_rpm.Tie as tie
@@ -20,7 +19,7 @@ write-rpm-requires : tie.Need-write-rpm-requires
 write-rpm-requires c κs = search needs
 
 wrote-requires : tie.Need-wrote-requires
-wrote-requires c κs = frame-fits _ _ _ _ (c .before .before .write-rpm .ensures) (rpm-small _) (rpm-index _)
+wrote-requires c κs = search needs
 
 enum-told-2 : tie.Need-enum-told-2
 enum-told-2 c = search needs
@@ -29,7 +28,7 @@ no-record-requires : tie.Need-no-record-requires
 no-record-requires c κs = search needs
 
 wrote-requires-2 : tie.Need-wrote-requires-2
-wrote-requires-2 c κs = rw (c .no-record .ensures) (no-record-fits _)
+wrote-requires-2 c κs = search needs
 
 same-length : tie.Need-same-length
 same-length c = search needs
@@ -40,7 +39,7 @@ returns c =
     let told = sent .before .before in
     let made = told .before .before .before in
     let a = made .before .before .args in
-    frame-told _ _ _ _ (sent .write-rpm .ensures) (c .wrote .ensures)
+    frame-told _ _ _ _ (sent .write-rpm .ensures) (rpm-small _) (rpm-index _) (c .wrote .ensures)
     ∙ ap (λ (i : Image). frames (a .dest) 0x0C i (a .buffer .now)) (new-record _ _ (made .new .ensures) (told .enum-told .given .1))
 
 returns-2 : tie.Need-returns-2
@@ -48,7 +47,7 @@ returns-2 c =
     let told = c .before .before in
     let made = told .before .before .before in
     let a = made .before .before .args in
-    frame-told _ _ _ _ (ap (λ (w : Written). (w, a .buffer .now)) (c .before .no-record .ensures) ∙ no-record (a .dest) 0x0C (a .buffer .now)) (c .wrote2 .ensures)
+    frame-told _ _ _ _ (ap (λ (w : Written). (w, a .buffer .now)) (c .before .no-record .ensures) ∙ no-record (a .dest) 0x0C (a .buffer .now)) tt refl (c .wrote2 .ensures)
     ∙ ap (λ (i : Image). frames (a .dest) 0x0C i (a .buffer .now)) (new-refused _ _ (made .new .ensures) (told .enum-told2 .given .1))
 
 pub crsf-write-rpm-spec : {M : Type 1} → statement M

@@ -1,22 +1,22 @@
 -- `told::saving::restored_answer` meets its contract. Assumes nothing.
-use mathlib.Core.Path.{sym, ap, subst, _∙_}
-use Prim.Native.Nat.{ℕ, _<_}
+use mathlib.Core.Path.{sym, ap, _∙_}
+use Prim.Native.Nat.{ℕ}
 use Rattle.saved.specs.declared.form.Restored.{Restored}
 use Rattle.saved.specs.Save.{toldByRestore}
-use Rattle.told.specs.Answer.{packed}
+use Rattle.told.specs.Answer.{packed, inBytes}
 use Rattle.told.specs.State.{toldState}
 use borrow.Author.Needs.{needs}
 use Rattle.told.proofs.saving.restored_answer.Statement.{statement}
 use Rattle.told.proofs.saving.restored_answer.Tie as tie
 
 abbrev told : Restored → ℕ
-told s = packed (toldState (toldByRestore s))
+told s = packed (inBytes (toldState (toldByRestore s)))
 
 enum-known-restored : tie.Need-enum-known-restored
 enum-known-restored c = search needs
 
 count-requires : tie.Need-count-requires
-count-requires c κs = subst (λ (s : Restored). toldByRestore s .count < 256) (c .before .restored .given .1) (c .before .before .before .pre)
+count-requires c κs = search needs
 
 enum-told : tie.Need-enum-told
 enum-told c = search needs

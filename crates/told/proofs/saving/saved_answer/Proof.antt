@@ -1,22 +1,22 @@
 -- `told::saving::saved_answer` meets its contract. Assumes nothing.
-use mathlib.Core.Path.{sym, ap, subst, _∙_}
-use Prim.Native.Nat.{ℕ, _<_}
+use mathlib.Core.Path.{sym, ap, _∙_}
+use Prim.Native.Nat.{ℕ}
 use Rattle.saved.specs.declared.form.Saved.{Saved}
 use Rattle.saved.specs.Save.{toldBySave}
-use Rattle.told.specs.Answer.{packed}
+use Rattle.told.specs.Answer.{packed, inBytes}
 use Rattle.told.specs.State.{toldState}
 use borrow.Author.Needs.{needs}
 use Rattle.told.proofs.saving.saved_answer.Statement.{statement}
 use Rattle.told.proofs.saving.saved_answer.Tie as tie
 
 abbrev told : Saved → ℕ
-told s = packed (toldState (toldBySave s))
+told s = packed (inBytes (toldState (toldBySave s)))
 
 enum-known-saved : tie.Need-enum-known-saved
 enum-known-saved c = search needs
 
 count-requires : tie.Need-count-requires
-count-requires c κs = subst (λ (s : Saved). toldBySave s .count < 256) (c .before .saved .given .1) (c .before .before .before .pre)
+count-requires c κs = search needs
 
 enum-told : tie.Need-enum-told
 enum-told c = search needs

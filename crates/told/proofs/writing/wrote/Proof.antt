@@ -1,22 +1,22 @@
 -- `told::writing::wrote` meets its contract. Assumes nothing.
-use mathlib.Core.Path.{sym, ap, subst, _∙_}
+use mathlib.Core.Path.{sym, ap, _∙_}
 use Prim.Native.Nat.{ℕ}
 use Rattle.layout.specs.declared.Written.{Written}
 use Rattle.layout.specs.Writing.{number, values}
 use Rattle.told.specs.Answer.{packed, toldNumber}
-use Rattle.told.specs.Write.{toldWritten, WrittenFits}
+use Rattle.told.specs.Write.{toldWritten, inByte}
 use borrow.Author.Needs.{needs}
 use Rattle.told.proofs.writing.wrote.Statement.{statement}
 use Rattle.told.proofs.writing.wrote.Tie as tie
 
 abbrev told : Written → ℕ
-told w = packed (toldWritten w)
+told w = packed (toldWritten (inByte w))
 
 enum-known-written : tie.Need-enum-known-written
 enum-known-written c = search needs
 
 count-requires : tie.Need-count-requires
-count-requires c κs = subst WrittenFits (c .before .written .given .1) (c .before .before .before .pre)
+count-requires c κs = search needs
 
 enum-told : tie.Need-enum-told
 enum-told c = search needs
@@ -34,7 +34,7 @@ enum-known-written-2 : tie.Need-enum-known-written-2
 enum-known-written-2 c = search needs
 
 narrow-requires : tie.Need-narrow-requires
-narrow-requires c κs = subst WrittenFits (c .before .written2 .given .1) (c .before .before .before .pre)
+narrow-requires c κs = search needs
 
 said-requires : tie.Need-said-requires
 said-requires c κs = search needs
