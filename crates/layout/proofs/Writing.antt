@@ -1,13 +1,11 @@
 -- A write of n bytes, by whether they fit.
 -- Assumes nothing.
 use Prim.Native.Nat.{ℕ, _≤_, _<_}
-use mathlib.Core.Path.{_≡_, refl, sym, ap}
+use mathlib.Core.Path.{_≡_, refl}
 use mathlib.Core.List.{List}
 use lib.ListN.{length}
 use borrow.Author.Tests.{le-leb, lt-leb}
 use Rattle.base.specs.Parts.{pasted}
-use Rattle.base.proofs.Parts.{length-pasted}
-use Rattle.base.proofs.Tests.{by-test}
 use Rattle.layout.specs.Writing.{bytes, refused, writeOf}
 use Rattle.layout.specs.declared.Written.{Written}
 use Rattle.layout.specs.declared.Written.the-variants.{Wrote, BufferOverflow}

@@ -1,11 +1,11 @@
 -- A record is told by its numbers, and a reader's answer by its number and values: no two of them show the same.
 -- Assumes nothing.
-use Prim.Native.Nat.{ℕ}
 use mathlib.Core.List.{List}
 use mathlib.Core.Path.{_≡_, refl}
 use lib.IntN.{ℤ}
 use Rattle.fields.specs.Answer.{Answer}
-use Rattle.fields.proofs.Told.{told, whole, natural, answerOf}
+use Rattle.base.proofs.Unique.{told}
+use Rattle.fields.proofs.Told.{whole, natural, answerOf}
 use Rattle.positions.specs.Gps.{gpsValues, gpsAnswer}
 use Rattle.positions.specs.GpsExtended.{gpsExtendedValues, gpsExtendedAnswer}
 use Rattle.positions.specs.declared.gps.Gps.{Gps}

@@ -10,9 +10,6 @@ use Rattle.positions.specs.declared.gps.Gps.{Gps}
 use Rattle.positions.specs.declared.gps.GpsRead.{GpsRead}
 use Rattle.positions.specs.declared.gps.GpsRead.the-variants.{Record, InvalidPayloadLength}
 
-abbrev pub gpsType : ℕ
-gpsType = 0x02
-
 abbrev pub gpsLayout : List Field
 gpsLayout = signed 4 ∷ signed 4 ∷ unsigned 2 ∷ unsigned 2 ∷ unsigned 2 ∷ unsigned 1 ∷ []
 

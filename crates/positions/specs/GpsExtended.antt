@@ -10,9 +10,6 @@ use Rattle.positions.specs.declared.gps_extended.GpsExtended.{GpsExtende
 use Rattle.positions.specs.declared.gps_extended.GpsExtendedRead.{GpsExtendedRead}
 use Rattle.positions.specs.declared.gps_extended.GpsExtendedRead.the-variants.{Record, InvalidPayloadLength}
 
-abbrev pub gpsExtendedType : ℕ
-gpsExtendedType = 0x06
-
 abbrev pub gpsExtendedLayout : List Field
 gpsExtendedLayout = unsigned 1 ∷ signed 2 ∷ signed 2 ∷ signed 2 ∷ signed 2 ∷ signed 2 ∷ signed 2 ∷ signed 2 ∷ signed 2 ∷ unsigned 1 ∷ unsigned 1 ∷ unsigned 1 ∷ []
 

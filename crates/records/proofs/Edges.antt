@@ -5,8 +5,8 @@ use mathlib.Core.Path.{_≡_, refl}
 use mathlib.Core.List.{List, map}
 use Rattle.numbers.specs.BigEndian.{beOf, bytesOf}
 use Rattle.numbers.specs.TwosComplement.{signedOf, twosOf}
-use Rattle.layout.specs.Writing.{Image, bytes}
-use Rattle.fields.specs.Answer.{Answer, read}
+use Rattle.layout.specs.Writing.{bytes}
+use Rattle.fields.specs.Answer.{read}
 use Rattle.records.specs.Battery.{batteryValues, batteryImage, batteryRead}
 use Rattle.records.specs.Edges.{batteryEdges}
 use Rattle.records.specs.declared.battery.Battery.{Battery}

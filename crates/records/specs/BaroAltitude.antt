@@ -10,9 +10,6 @@ use Rattle.records.specs.declared.baro_altitude.BaroAltitude.{BaroAltitu
 use Rattle.records.specs.declared.baro_altitude.BaroAltitudeRead.{BaroAltitudeRead}
 use Rattle.records.specs.declared.baro_altitude.BaroAltitudeRead.the-variants.{Record, InvalidPayloadLength}
 
-abbrev pub baroAltitudeType : ℕ
-baroAltitudeType = 0x09
-
 abbrev pub baroAltitudeLayout : List Field
 baroAltitudeLayout = unsigned 2 ∷ signed 1 ∷ []
 

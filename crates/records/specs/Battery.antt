@@ -14,9 +14,6 @@ use Rattle.records.specs.declared.battery.Battery.{Battery}
 use Rattle.records.specs.declared.battery.BatteryRead.{BatteryRead}
 use Rattle.records.specs.declared.battery.BatteryRead.the-variants.{Record, InvalidPayloadLength}
 
-abbrev pub batteryType : ℕ
-batteryType = 0x08
-
 abbrev pub batteryLayout : List Field
 batteryLayout = signed 2 ∷ signed 2 ∷ unsigned 3 ∷ unsigned 1 ∷ unsigned 1 ∷ []
 

@@ -10,9 +10,6 @@ use Rattle.records.specs.declared.link_statistics.LinkStatistics.{LinkSt
 use Rattle.records.specs.declared.link_statistics.LinkStatisticsRead.{LinkStatisticsRead}
 use Rattle.records.specs.declared.link_statistics.LinkStatisticsRead.the-variants.{Record, InvalidPayloadLength}
 
-abbrev pub linkStatisticsType : ℕ
-linkStatisticsType = 0x14
-
 abbrev pub linkStatisticsLayout : List Field
 linkStatisticsLayout = unsigned 1 ∷ unsigned 1 ∷ unsigned 1 ∷ signed 1 ∷ unsigned 1 ∷ unsigned 1 ∷ unsigned 1 ∷ unsigned 1 ∷ unsigned 1 ∷ signed 1 ∷ []
 
