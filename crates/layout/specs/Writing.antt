@@ -30,7 +30,7 @@ values (ChannelRange i) = i ∷ []
 values BadAddress = []
 
 -- a reader's number: 0 for a record, and 4; it carries nothing but the record beside it
-unfoldable pub readNumber : ReadAnswer → ℕ
+abbrev pub readNumber : ReadAnswer → ℕ
 readNumber Record = 0
 readNumber InvalidPayloadLength = 4
 

@@ -7,7 +7,7 @@ use lib.IntN.{ℤ}
 use lib.ListN.{length, take, drop}
 use Rattle.base.specs.Choice.{if_then_else_}
 use Rattle.layout.specs.declared.ReadAnswer.{ReadAnswer}
-use Rattle.layout.specs.declared.ReadAnswer.the-variants.{Record, InvalidPayloadLength}
+use Rattle.layout.specs.Writing.{readNumber}
 use Rattle.fields.specs.Answer.{Answer}
 use Rattle.records.specs.declared.battery.Battery.{Battery}
 use Rattle.channels.specs.declared.ChannelsRead.{ChannelsRead}
@@ -34,10 +34,9 @@ keptBattery x = record {
   id = x .id;
 }
 
--- what an answer beside a record says
+-- what an answer beside a record says, by its number
 abbrev pub byAnswer : {A : Type 0} → ReadAnswer → ℕ × List A → List A → ℕ × List A
-byAnswer Record whole out = whole
-byAnswer InvalidPayloadLength whole out = (packed (toldRefusal 4), out)
+byAnswer a whole out = if eqb (readNumber a) 0 then whole else (packed (toldRefusal (readNumber a)), out)
 
 unfoldable pub givesChannels : ChannelsRead → List ℕ → ℕ × List ℕ
 givesChannels read out = byAnswer (read .answer) (given (toldCount 16) (read .channels .0) out) out
