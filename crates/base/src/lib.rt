@@ -1,6 +1,6 @@
 // What every crate above needs: of lists and tests in specs/ and proofs/; and the one copy of bytes, a byte as a number, and a byte that may be lacking.
 ghost use mathlib.Core.Path.{_≡_};
-ghost use Prim.Native.Nat.{_+_, _≤_, _<_};
+ghost use Prim.Native.Nat.{_+_, _%_, _≤_, _<_};
 ghost use lib.ListN.{length, getD};
 ghost use lib.Seq.{paste};
 ghost use Rattle.base.specs.Parts.{fitsIn, copied};
@@ -67,6 +67,13 @@ pub fn wide(b: u8) -> usize
     ensures { λ r. ⌜ (r ≡ b) × (r < 256) ⌝ }
 {
     b as usize
+}
+
+// The low byte of a place or a count.
+pub fn narrow(n: usize) -> u8
+    ensures { λ r. ⌜ r ≡ n % 256 ⌝ }
+{
+    (n % 256) as u8
 }
 
 // The byte at place i, or 0 where none is.

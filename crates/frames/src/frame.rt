@@ -1,5 +1,6 @@
 // The frame of a payload that a record's own writer has made.
 use base::copy_in;
+use base::narrow;
 use crc::checksum;
 use layout::Written;
 use packets::is_address;
@@ -14,13 +15,6 @@ ghost use Rattle.reading.specs.Frame.{frame};
 ghost use Rattle.layout.specs.Writing.{bytes, writeOf};
 ghost use Rattle.layout.specs.declared.Written.the-variants.{Wrote};
 ghost use Rattle.frames.specs.Frames.{framedBody, framed, imageIn, sizeIn};
-
-fn narrow(n: usize) -> u8
-    requires { ⌜ n < 256 ⌝ }
-    ensures { λ r. ⌜ r ≡ n ⌝ }
-{
-    n as u8
-}
 
 // Address, length byte and type.
 fn put_head(buffer: &mut [u8], dest: u8, count: u8, kind: u8)

@@ -1,4 +1,5 @@
 // Readers of payloads: a record's numbers, in the order of its fields, at the front of a lent slice. Refusals are 4, then 5; nothing is written then.
+use base::narrow;
 use channels::RcChannelsPacked;
 use layout::ReadAnswer;
 use positions::gps::Gps;
@@ -12,7 +13,6 @@ use records::battery::BatteryRead;
 use records::link_statistics::LinkStatistics;
 use records::link_statistics::LinkStatisticsRead;
 use rpm::Rpm;
-use told::answer::narrow;
 use told::answer::placed;
 use told::answer::refuse;
 use values::baro_altitude_values;

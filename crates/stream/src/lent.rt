@@ -2,17 +2,9 @@
 use crate::step::Answer;
 use crate::step::Answered;
 use crate::step::step_in;
+use base::narrow;
 use base::wide;
-ghost use mathlib.Core.Path.{_≡_};
-ghost use Prim.Native.Nat.{_<_};
 ghost use Rattle.stream.specs.Lent.{Lends};
-
-fn narrow(n: usize) -> u8
-    requires { ⌜ n < 256 ⌝ }
-    ensures { λ r. ⌜ r ≡ n ⌝ }
-{
-    n as u8
-}
 
 pub fn step_lent(state: &mut [u8], input: &[u8]) -> Answered
     ensures { λ r. ⌜ Lends (now (state .entry)) (now (input .entry)) (now (state .exit)) r ⌝ }

@@ -5,7 +5,6 @@ use Rattle.base.proofs.Unique.{OneAnswer, same}
 use Rattle.layout.specs.declared.Written.{Written}
 use Rattle.told.specs.declared.answer.Told.{Told}
 use Rattle.told.proofs.answer.pack.Reads as pack
-use Rattle.told.proofs.answer.narrow.Reads as narrow
 use Rattle.told.proofs.answer.placed.Reads as placed
 use Rattle.told.proofs.answer.count.Reads as count
 use Rattle.told.proofs.answer.refuse.Reads as refuse
@@ -17,9 +16,6 @@ use Rattle.told.proofs.writing.no_record.Reads as no-record
 
 pub pack-one : OneAnswer {Seen = ℕ} pack.Post (λ κs r s. r)
 pack-one κs a r r′ s s′ = same
-
-pub narrow-one : OneAnswer {Seen = ℕ} narrow.Post (λ κs r s. r)
-narrow-one κs a r r′ s s′ = same
 
 pub placed-one : OneAnswer {Seen = Told} placed.Post (λ κs r s. r)
 placed-one κs a r r′ s s′ = same

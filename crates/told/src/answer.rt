@@ -1,4 +1,5 @@
 // The eight bytes.
+use base::narrow;
 ghost use mathlib.Core.Path.{_≡_};
 ghost use Prim.Native.Nat.{_+_, _*_, _^_, _%_, _<_};
 ghost use Rattle.told.specs.Answer.{packed, toldNumber, toldPlace, toldCount, toldRefusal};
@@ -41,13 +42,6 @@ pub fn pack(t: Told) -> u64
             ),
         ),
     )
-}
-
-// The low byte of a count: the count itself in every answer that an entry gives.
-pub fn narrow(n: usize) -> u8
-    ensures { λ r. ⌜ r ≡ n % 256 ⌝ }
-{
-    (n % 256) as u8
 }
 
 // A number, and what it carries.

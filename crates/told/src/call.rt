@@ -1,8 +1,8 @@
 // What a call of the stream says.
 use crate::answer::Told;
-use crate::answer::narrow;
 use crate::answer::placed;
 use crate::answer::said;
+use base::narrow;
 use stream::step::Answer;
 use stream::step::Answered;
 ghost use mathlib.Core.Path.{_≡_};

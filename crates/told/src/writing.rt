@@ -1,9 +1,9 @@
 // What a writer of frames says.
 use crate::answer::count;
-use crate::answer::narrow;
 use crate::answer::pack;
 use crate::answer::refuse;
 use crate::answer::said;
+use base::narrow;
 use layout::Written;
 use packets::is_address;
 ghost use mathlib.Core.Path.{_≡_};

@@ -1,7 +1,8 @@
 -- `frames::frame::seal` meets its contract: head and check byte are put about the payload. Assumes nothing.
 use mathlib.Core.Path.{_≡_, refl, ap, _∙_}
 use mathlib.Core.List.{List, [], _∷_}
-use Prim.Native.Nat.{ℕ, _+_}
+use Prim.Native.Nat.{ℕ, _+_, _<_}
+use native.Mathlib.Nat.{mod-eq-of-lt}
 use native.Mathlib.Omega.{arith}
 use borrow.Author.Needs.{needs}
 use lib.Seq.{slice}
@@ -39,8 +40,9 @@ returns c =
     let a = head .before .before .before .before .args in
     let b : List ℕ = a .buffer .now in
     let n : ℕ = a .size in
+    let few : n + 2 < 256 = omega arith in
     let first : head .put-head .last .0 ≡ pasted b 0 (a .dest ∷ (n + 2) ∷ a .kind ∷ []) =
-    head .put-head .ensures ∙ ap (λ (k : ℕ). pasted b 0 (a .dest ∷ k ∷ a .kind ∷ [])) (head .before .narrow .ensures) in (
+    head .put-head .ensures ∙ ap (λ (k : ℕ). pasted b 0 (a .dest ∷ k ∷ a .kind ∷ [])) (head .before .narrow .ensures ∙ mod-eq-of-lt few) in (
       refl,
       check .put-check .ensures
           ∙ ap (λ (l : List ℕ). pasted l (n + 3) (remainder (slice 2 (n + 3) l) ∷ [])) first
