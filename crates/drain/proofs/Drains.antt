@@ -1,4 +1,4 @@
--- Laws of a drain: one turn of its loop; with a budget that is enough it is the reading; and it is a run of a history. Assumes nothing.
+-- Laws of a drain: what an answer counts, by the code and by the reading; the definition, one call at a time; and one turn of the loop. Assumes nothing.
 use mathlib.Core.Path.{_≡_, refl, sym, ap, _∙_, subst}
 use mathlib.Core.Bool.{Bool, true, false, true≢false}
 use mathlib.Core.List.{List}
@@ -22,7 +22,8 @@ use Rattle.drain.specs.declared.End.{End}
 use Rattle.drain.specs.declared.End.the-variants.{AsksForMore, BudgetSpent, BadState as NoState}
 use Rattle.parser.specs.Parser.{heldBy, isState, Nexts}
 use Rattle.drain.specs.Drain.{framesOf, refusalsOf, framesIn, refusalsIn, Tally, more, drainOf, tallyOf, Drains}
-use Rattle.parser.proofs.Held.{call-takes, moves-on, still-state}
+use Rattle.reading.proofs.Call.{call-takes}
+use Rattle.parser.proofs.Held.{moves-on, still-state}
 
 -- ---- What an answer of the code counts is what the reading's counts
 

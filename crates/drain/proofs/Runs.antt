@@ -21,7 +21,7 @@ use Rattle.drain.specs.declared.End.the-variants.{AsksForMore, BudgetSpe
 use Rattle.parser.specs.Parser.{heldBy, isState}
 use Rattle.drain.specs.Drain.{framesOf, refusalsOf, total, Tally, more, drainOf, tallied, tallyOf, Drains}
 use Rattle.drain.proofs.Drains.{tally-eq, none-left, drain-stop, drain-says}
-use Rattle.parser.proofs.Held.{call-takes}
+use Rattle.reading.proofs.Call.{call-takes}
 
 -- what a call drops, by its answer
 dropped-by : (a : Answer) {f : First} → f ≡ says a → droppedBy f ≡ drops a

@@ -93,6 +93,7 @@ tallied r taken = record {
 abbrev pub tallyOf : Drained → Tally
 tallyOf r = record { held = heldBy (r .parser); taken = r .taken; frames = r .frames; refusals = r .refusals; end = r .end }
 
+-- a state that is none is refused and stays; else the parser is a state again, and holds, took and counted what the definition says
 pub record Drains (p : CrsfParser) (input : List ℕ) (budget : ℕ) (r : Drained) : Type 0 where
   pub refuses : isState p ≡ false → r ≡ record { parser = p; taken = 0; frames = 0; refusals = 0; end = NoState }
   pub state : isState p ≡ true → isState (r .parser) ≡ true

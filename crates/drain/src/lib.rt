@@ -3,6 +3,7 @@ use parser::CrsfParser;
 use parser::next_raw_packet;
 use stream::step::Answer;
 use stream::step::asks_for_more;
+use stream::step::is_span;
 ghost use mathlib.Core.Path.{_≡_};
 ghost use mathlib.Core.Bool.{true};
 ghost use Rattle.parser.specs.Parser.{isState};
@@ -58,7 +59,7 @@ fn refusals_in(answer: Answer) -> usize
 fn is_state(p: CrsfParser) -> bool
     ensures { λ r. ⌜ r ≡ isState p ⌝ }
 {
-    p.start <= p.end && p.end <= 64
+    is_span(64, p.start, p.end)
 }
 
 fn drain_state(p: CrsfParser, input: &[u8], budget: usize) -> Drained

@@ -1,5 +1,6 @@
 // Drains the standard input through a parser in pieces of several sizes: each cut prints the same counts.
 use drain::drain;
+use libc::STDOUT_FILENO;
 use parser::CrsfParser;
 ghost use Prim.Native.Nat.{_≤_};
 
@@ -42,15 +43,15 @@ fn report(input: &[u8], size: usize)
     requires { ⌜ 1 ≤ size ⌝ }
 {
     let sum = drain_all(input, size);
-    io::print_decimal(1, size as u64);
-    io::write_all(1, b": ");
-    io::print_decimal(1, sum.frames);
-    io::write_all(1, b" frames, ");
-    io::print_decimal(1, sum.refusals);
-    io::write_all(1, b" refusals, ");
+    io::print_decimal(STDOUT_FILENO, size as u64);
+    io::write_all(STDOUT_FILENO, b": ");
+    io::print_decimal(STDOUT_FILENO, sum.frames);
+    io::write_all(STDOUT_FILENO, b" frames, ");
+    io::print_decimal(STDOUT_FILENO, sum.refusals);
+    io::write_all(STDOUT_FILENO, b" refusals, ");
     let p = sum.parser;
-    io::print_decimal(1, parser::held_len(p) as u64);
-    io::write_all(1, b" held\n");
+    io::print_decimal(STDOUT_FILENO, parser::held_len(p) as u64);
+    io::write_all(STDOUT_FILENO, b" held\n");
 }
 
 fn main() {

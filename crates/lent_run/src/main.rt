@@ -1,9 +1,11 @@
 // Reads the standard input by a parser that is lent to each call, in pieces of several sizes: each cut prints the same counts.
+use libc::STDOUT_FILENO;
 use parser::CrsfParser;
 use parser::held_len;
 use parser::lent::lend;
 use parser::lent::restart;
 use stream::step::Answer;
+use stream::step::asks_for_more;
 use view::frame;
 ghost use Prim.Native.Nat.{_≤_};
 
@@ -29,14 +31,6 @@ fn kind_of(answer: Answer) -> Kind {
         Answer::InvalidPacketLength(_) => Kind::Refusal,
         Answer::InvalidCrc { .. } => Kind::Refusal,
         Answer::BadState => Kind::Refusal,
-    }
-}
-
-fn is_more(kind: Kind) -> bool {
-    match kind {
-        Kind::More => true,
-        Kind::Frame => false,
-        Kind::Refusal => false,
     }
 }
 
@@ -81,7 +75,7 @@ fn feed(start: Sum, piece: &[u8]) -> Sum {
         let len = frame(answer, rest, &places).len() as u64;
         at += answered.taken;
         sum = counted(sum, parser, kind, len);
-        if is_more(kind) {
+        if asks_for_more(answer) {
             return sum;
         }
         left -= 1;
@@ -121,17 +115,17 @@ fn report(before: CrsfParser, input: &[u8], size: usize) -> CrsfParser
     requires { ⌜ 1 ≤ size ⌝ }
 {
     let sum = feed_all(before, input, size);
-    io::print_decimal(1, size as u64);
-    io::write_all(1, b": ");
-    io::print_decimal(1, sum.frames);
-    io::write_all(1, b" frames of ");
-    io::print_decimal(1, sum.bytes);
-    io::write_all(1, b" bytes, ");
-    io::print_decimal(1, sum.refusals);
-    io::write_all(1, b" refusals, ");
+    io::print_decimal(STDOUT_FILENO, size as u64);
+    io::write_all(STDOUT_FILENO, b": ");
+    io::print_decimal(STDOUT_FILENO, sum.frames);
+    io::write_all(STDOUT_FILENO, b" frames of ");
+    io::print_decimal(STDOUT_FILENO, sum.bytes);
+    io::write_all(STDOUT_FILENO, b" bytes, ");
+    io::print_decimal(STDOUT_FILENO, sum.refusals);
+    io::write_all(STDOUT_FILENO, b" refusals, ");
     let p = sum.parser;
-    io::print_decimal(1, held_len(p) as u64);
-    io::write_all(1, b" held\n");
+    io::print_decimal(STDOUT_FILENO, held_len(p) as u64);
+    io::write_all(STDOUT_FILENO, b" held\n");
     p
 }
 

@@ -15,6 +15,7 @@ use Rattle.reading.specs.Answer.{Answer}
 use Rattle.reading.specs.Reading.{First, stop, says}
 use Rattle.reading.specs.Call.{Call, call}
 use Rattle.reading.proofs.Call.{answers-first, asks-for-more}
+use Rattle.reading.proofs.Call.{call-takes}
 use Rattle.stream.specs.Places.{heldIn}
 use Rattle.stream.specs.Step.{isSpan}
 use Rattle.stream.proofs.Held.{length-held}
@@ -27,7 +28,7 @@ use Rattle.listing.specs.declared.drain.Turn.{Turn}
 use Rattle.listing.specs.declared.drain.Listed.{Listed}
 use Rattle.listing.specs.declared.drain.Status.the-variants.{More, Full, BadState}
 use Rattle.lines.proofs.Puts.{puts-none, puts-then, puts-as, length-puts}
-use Rattle.listing.proofs.Listings.{after-after, at-full, at-stop, at-says, fewer, taken-fits}
+use Rattle.listing.proofs.Listings.{after-after, at-full, at-stop, at-says, fewer}
 
 -- some lines are written and some input is taken, and the rest of what is wanted is the listing from here on
 pub record Going (m : ℕ) (wanted : Listing) (out₀ input places : List ℕ) (from to taken at : ℕ) (out : List ℕ) : Type 0 where
@@ -123,7 +124,7 @@ module _ {m : ℕ} {wanted : Listing} {out₀ input places : List ℕ} {from to 
     out-size′ = length-puts (omega (arith, t .puts .next, t .short, enough)) (t .puts) ∙ g .out-size
 
     pub taken′ : taken + r .taken ≤ length input
-    taken′ = omega (arith, t .taken-is, taken-fits m held unread, length-drop taken input, g .taken-in)
+    taken′ = omega (arith, t .taken-is, call-takes m held unread, length-drop taken input, g .taken-in)
 
     -- an answer: its line stands behind the others
     going-on : (a : Answer) → answer ≡ says a → Going m wanted out₀ input places′ (r .start) (r .end) (taken + r .taken) (r .at) out′
@@ -166,7 +167,7 @@ module _ {m : ℕ} {wanted : Listing} {out₀ input places : List ℕ} {from to 
           length-append held unread,
           length-drop (c .taken) unread,
           length-drop taken input,
-          taken-fits m held unread,
+          call-takes m held unread,
           t .taken-is,
         )
 

@@ -12,7 +12,7 @@ use Rattle.reading.specs.Reading.{stop, says, first, Reading, reading}
 use Rattle.reading.specs.Call.{droppedBy, call}
 use Rattle.reading.proofs.First.{stands}
 use Rattle.reading.proofs.Reading as read
-use Rattle.reading.proofs.Call.{sizes, answers-first, rest}
+use Rattle.reading.proofs.Call.{answers-first, rest}
 use Rattle.lines.specs.Lines.{line, longest}
 use Rattle.listing.specs.Listing.{Listing, after, full, asking, listFrom, listOf}
 
@@ -64,8 +64,3 @@ module _ (m : ℕ) (held input : List ℕ) where
     -- an answer leaves fewer bytes
     pub fewer : length left < length (held ++ input)
     fewer = let s = stands m (held ++ input) a stands-first in omega (arith, ap length left-is, length-drop (drops a) (held ++ input))
-
-  -- no more bytes are taken than there are
-  pub taken-fits : call m held input .taken ≤ length input
-  unfolding call
-  taken-fits = sizes m held input .there

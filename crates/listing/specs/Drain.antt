@@ -28,6 +28,7 @@ unfoldable pub lineFirst : First → List ℕ
 lineFirst stop = []
 lineFirst (says a) = line a
 
+-- one call of the stream, and the line of its answer at a place with room for the longest
 pub record Turns (m : ℕ) (held input out : List ℕ) (at : ℕ) (places outAfter : List ℕ) (r : Turn) : Type 0 where
   pub ordered : r .start ≤ r .end
   pub inside : r .end ≤ m
@@ -43,6 +44,7 @@ abbrev pub statusOf : Bool → Status
 statusOf true = status.More
 statusOf false = status.Full
 
+-- the listing l: all but where the held bytes stand is l's, and the buffer behind its lines is kept
 pub record Drains (m : ℕ) (l : Listing) (input out places outAfter : List ℕ) (r : Listed) : Type 0 where
   pub ordered : r .start ≤ r .end
   pub inside : r .end ≤ m

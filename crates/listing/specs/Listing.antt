@@ -31,12 +31,13 @@ full held = record { lines = []; taken = 0; held = held; asks = false }
 abbrev pub asking : List ℕ → List ℕ → Listing
 asking held input = record { lines = []; taken = length input; held = held ++ input; asks = true }
 
--- the answers that are to come are given one by one, each by a call, while there is room for the longest line
+-- the answers that are to come, by whose list the definition ends, are given one by one, each by a call, while there is room for the longest line
 unfoldable pub listFrom : ℕ → List Answer → List ℕ → List ℕ → ℕ → Listing
 listFrom m [] held input room = if ltb room longest then full held else asking held input
 listFrom m (a ∷ more) held input room =
     if ltb room longest then full held else
     (let c = call m held input in after (line a) (c .taken) (listFrom m more (c .held) (drop (c .taken) input) (room - length (line a))))
 
+-- the listing of the held bytes and then the input
 unfoldable pub listOf : ℕ → List ℕ → List ℕ → ℕ → Listing
 listOf m held input room = listFrom m (reading m (held ++ input) .answers) held input room

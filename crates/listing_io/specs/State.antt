@@ -11,7 +11,7 @@ pub record Sound (places out start end at : ℕ) : Type 0 where
   pub few : end - start < places
   pub room : at ≤ out
 
--- of a parser with 64 places fewer are held at the end
+-- fewer than 64 bytes are held at the end: 64 would be a whole candidate
 abbrev pub Ends : Ended → Type 0
 Ends (Listed held) = held < 64
 Ends ReadFailed = Unit {0}

@@ -38,7 +38,7 @@ struct State {
     next: Next,
 }
 
-// The same after a part of a piece, with how many bytes of it were taken, and whether all of them were.
+// The same after a part of a piece, with how many bytes of it were taken, and whether the piece is done with: all of it is taken, or something failed.
 struct Part {
     start: usize,
     end: usize,

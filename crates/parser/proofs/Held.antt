@@ -7,8 +7,7 @@ use native.Mathlib.Omega.{arith}
 use borrow.Author.Tests.{le-leb}
 use lib.ListN.{length}
 use Rattle.base.proofs.Tests.{by-test}
-use Rattle.reading.specs.Call.{call}
-use Rattle.reading.proofs.Call.{sizes}
+use Rattle.reading.proofs.Call.{call-takes}
 use Rattle.stream.specs.Step.{Moves, Outcome}
 use Rattle.stream.specs.declared.step.Moved.{Moved}
 use Rattle.stream.proofs.Spans.{span-bounds}
@@ -20,10 +19,6 @@ use Rattle.parser.specs.Parser.{empty, resetOf, heldBy, heldCount, isSta
 pub empty-holds : heldBy empty ≡ []
 unfolding empty
 empty-holds = refl
-
-pub call-takes : (m : ℕ) (held input : List ℕ) → call m held input .taken ≤ length input
-unfolding call
-call-takes m held input = sizes m held input .there
 
 module _ (p : CrsfParser) where
   pub reset-holds : heldBy (resetOf p) ≡ []

@@ -1,3 +1,5 @@
+-- `Held`, `Frames`, `Histories`: what a call by value keeps, gives and adds to a history. `Walk`, `Told`, `InPlace`: proofs by hand over any lent
+-- struct. `Structs`, `Lending`: the same for this crate's. `Unique`, `LentUnique`: one answer.
 pub mod Held
 pub mod Frames
 pub mod Histories

@@ -21,7 +21,7 @@ pub fn restore(p: &mut CrsfParser, form: &[u8]) -> Restored
     out.restored
 }
 
-// A restore of a parser that is lent and handed back. The parameters are plain, so whoever calls this needs no walk.
+// A restore of a parser that is lent and handed back, for callers that the prover proves by itself.
 pub fn resumed(p: CrsfParser, form: &[u8]) -> Resumed
     ensures { λ r. ⌜ Resumes p (now (form .entry)) (r .parser) (r .restored) ⌝ }
 {
@@ -33,7 +33,7 @@ pub fn resumed(p: CrsfParser, form: &[u8]) -> Resumed
     }
 }
 
-// A save of a parser that is lent, the same.
+// A save of a parser that is lent, for such callers.
 pub fn kept(p: CrsfParser, out: &mut [u8]) -> Saved
     ensures { λ r. ⌜ Saves p (now (out .entry)) r (now (out .exit)) ⌝ }
 {

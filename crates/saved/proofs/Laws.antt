@@ -26,7 +26,7 @@ use Rattle.saved.proofs.Forms.{form-is, Savable, savable, Accepted, acc
 
 -- ---- forms
 
--- the base: 0 to 63
+-- at document 01's limit of 64: 0 to 63
 pub counts-to-63 : (n : ℕ) → isCount 64 n ≡ leb n 63
 unfolding isCount
 counts-to-63 n =

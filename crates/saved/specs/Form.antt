@@ -1,4 +1,4 @@
--- Document 01, "Saved form": "the count of held bytes, 0 to 63, .. then exactly those bytes", over the frame limit m: 64 in the base.
+-- Document 01, "Saved form": "the count of held bytes, 0 to 63, .. then exactly those bytes", over the frame limit m: 64 in document 01.
 -- Assumes nothing.
 use Prim.Native.Nat.{ℕ, _+_, _-_}
 use mathlib.Core.Bool.{Bool, _&&_}

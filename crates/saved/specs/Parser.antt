@@ -1,4 +1,4 @@
--- A save and a restore of the parser by value.
+-- A restore of the parser by value. (Its save is `saveOf` of Save, over its places.)
 -- Assumes nothing.
 use Prim.Native.Nat.{ℕ}
 use mathlib.Core.List.{List}

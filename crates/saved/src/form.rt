@@ -1,5 +1,6 @@
 // The saved form of the bytes that stand in lent places: their count in one byte, then the bytes.
 use base::copy_in;
+use base::narrow;
 use base::wide;
 ghost use mathlib.Core.Path.{_≡_};
 ghost use Prim.Native.Nat.{_<_};
@@ -50,13 +51,6 @@ pub fn is_form(limit: usize, form: &[u8]) -> bool
     is_count(limit, count)
 }
 
-fn count_byte(count: usize) -> u8
-    requires { ⌜ count < 128 ⌝ }
-    ensures { λ r. ⌜ r ≡ count ⌝ }
-{
-    count as u8
-}
-
 // The saved form of the bytes from start up to end, at the front of out.
 pub fn save_in(places: &[u8], start: usize, end: usize, out: &mut [u8]) -> Saved
     ensures { λ r. ⌜ (toldBySave r, now (out .exit)) ≡ saveOf (now (places .entry)) start end (now (out .entry)) ⌝ }
@@ -68,7 +62,7 @@ pub fn save_in(places: &[u8], start: usize, end: usize, out: &mut [u8]) -> Saved
     if out.len() < count + 1 {
         return Saved::BufferOverflow;
     }
-    out[0] = count_byte(count);
+    out[0] = narrow(count);
     copy_in(out, 1, &places[start..end], count);
     Saved::Wrote(count + 1)
 }

@@ -1,4 +1,4 @@
-// The same over 66 lent bytes: start, end, then the 64 places.
+// Save, restore and reset over 66 lent bytes: start, end, then the 64 places.
 use crate::form::Restored;
 use crate::form::Saved;
 use crate::form::is_form;

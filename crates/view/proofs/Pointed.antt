@@ -12,7 +12,6 @@ use Rattle.view.specs.View.{frameOf, ofHeld}
 clash : _≡_ {A = ℕ} 0 1 → ⊥
 clash e = omega arith
 
--- an answer that means a frame points at its bytes
 pub pointed : (answer : Answer) (piece places : List ℕ) {b : Bool} {c : List ℕ} → meaningOf answer piece places ≡ frame b c
     → (ofHeld answer ≡ b) × (frameOf answer piece places ≡ c)
 unfolding meaningOf frameOf ofHeld

@@ -1,13 +1,13 @@
--- `drain::is_state` meets its contract. Assumes nothing.
-use borrow.Author.Tests.{le-leb, lt-leb}
+-- `drain::is_state` meets its contract: 64 places may hold a frame. Assumes nothing.
+use borrow.Author.Needs.{needs}
 use Rattle.drain.proofs.is_state.Statement.{statement}
 use Rattle.drain.proofs.is_state.Tie as tie
 
-returns : tie.Need-returns
-returns c = simp (le-leb _ _ (c .before .if1 .taken))
+is-span-requires : tie.Need-is-span-requires
+is-span-requires c κs = search needs
 
-returns-2 : tie.Need-returns-2
-returns-2 c = simp (lt-leb _ _ (c .if1 .left))
+returns : tie.Need-returns
+returns c = c .is-span .ensures
 
 pub is-state-spec : {M : Type 1} → statement M
-is-state-spec = tie.close (tie.spec returns returns-2)
+is-state-spec = tie.close (tie.spec is-span-requires returns)

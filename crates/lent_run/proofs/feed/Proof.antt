@@ -49,8 +49,8 @@ add-at c =
 counted-requires : tie.Need-counted-requires Inv-loop μ-loop
 counted-requires c κs = search needs
 
-is-more-requires : tie.Need-is-more-requires Inv-loop μ-loop
-is-more-requires c κs = search needs
+asks-for-more-requires : tie.Need-asks-for-more-requires Inv-loop μ-loop
+asks-for-more-requires c κs = search needs
 
 returns : tie.Need-returns Inv-loop μ-loop
 returns c = search needs
@@ -88,7 +88,7 @@ feed-spec =
     frame-requires
     add-at
     counted-requires
-    is-more-requires
+    asks-for-more-requires
     returns
     sub-left
     loop-less

@@ -1,6 +1,8 @@
 -- `saved::form::save_in` meets its contract. Assumes nothing.
 use mathlib.Core.Path.{_≡_, _∙_}
 use mathlib.Core.Bool.{true}
+use Prim.Native.Nat.{_-_, _<_}
+use native.Mathlib.Nat.{mod-eq-of-lt}
 use native.Mathlib.Omega.{arith}
 use borrow.Author.Tests.{not-true, not-false}
 use lib.ListN.{length, length-set}
@@ -36,8 +38,8 @@ returns-2 c =
     let a = c .before .before .before .before .before .args in
     save-short (a .places .now) (a .start) (a .end) (a .out .now) (good (c .before)) (c .if2 .taken)
 
-count-byte-requires : tie.Need-count-byte-requires
-count-byte-requires c κs = omega (arith, span (c .before) .group)
+narrow-requires : tie.Need-narrow-requires
+narrow-requires c κs = search needs
 
 slice-write-out : tie.Need-slice-write-out
 slice-write-out c = search needs
@@ -63,7 +65,9 @@ same-length c = c .before .before .copy-in .kept .0 ∙ simp length-set
 returns-3 : tie.Need-returns-3
 returns-3 c =
     let a = c .before .before .before .before .before .before .before .before .before .before .before .args in
-    save-written (a .places .now) (a .start) (a .end) (a .out .now) (good (c .before .before .before .before .before .before .before)) (omega arith) (c .before .before .before .before .before .count-byte .ensures) (c .before .before .copy-in .ensures)
+    let counted = c .before .before .before .before .before in
+    let few : a .end - a .start < 256 = omega (arith, span (counted .before .before) .group) in
+    save-written (a .places .now) (a .start) (a .end) (a .out .now) (good (counted .before .before)) (omega arith) (counted .narrow .ensures ∙ mod-eq-of-lt few) (c .before .before .copy-in .ensures)
 
 pub save-in-spec : {M : Type 1} → statement M
 save-in-spec =
@@ -74,7 +78,7 @@ save-in-spec =
     sub-count
     add-if2
     returns-2
-    count-byte-requires
+    narrow-requires
     slice-write-out
     sub-copy-in
     part-copy-in-start
