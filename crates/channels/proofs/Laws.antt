@@ -15,7 +15,7 @@ use Rattle.layout.specs.Writing.{bytes, refused}
 use Rattle.layout.specs.declared.Written.the-variants.{ChannelRange}
 use Rattle.layout.specs.declared.ReadAnswer.the-variants.{Record}
 use Rattle.channels.specs.Digits.{number, digits, Below}
-use Rattle.channels.specs.Channels.{channelsOf, bytesOf, channelsRead, firstAbove, channelsImage}
+use Rattle.channels.specs.Channels.{channelsOf, channelBytes, channelsRead, firstAbove, channelsImage}
 use Rattle.channels.specs.declared.RcChannelsPacked.{RcChannelsPacked}
 use Rattle.channels.proofs.Digits.{there-and-back, length-digits, digits-below}
 use Rattle.channels.proofs.FirstAbove.{none-above, not-above}
@@ -25,12 +25,12 @@ module _ (c : RcChannelsPacked) where
   unfolding channelsImage
   image-refused h = simp (lt-ltb _ 16 h)
 
-  pub image-bytes : 16 ≤ firstAbove (c .0) → channelsImage c ≡ bytes (bytesOf (c .0))
+  pub image-bytes : 16 ≤ firstAbove (c .0) → channelsImage c ≡ bytes (channelBytes (c .0))
   unfolding channelsImage
   image-bytes h = simp (le-ltb _ 16 h)
 
   -- where there are bytes to write, they are those of channels in range
-  told : (payload : List ℕ) → channelsImage c ≡ bytes payload → (16 ≤ firstAbove (c .0)) × (bytesOf (c .0) ≡ payload)
+  told : (payload : List ℕ) → channelsImage c ≡ bytes payload → (16 ≤ firstAbove (c .0)) × (channelBytes (c .0) ≡ payload)
   told payload e =
       ⊎-elim
       (λ (bad : firstAbove (c .0) < 16). let no = image-refused bad in let z : _≡_ {A = ℕ} 0 1 = cc in absurd (omega arith))
@@ -41,15 +41,15 @@ module _ (c : RcChannelsPacked) where
   channels-length payload e = rw (← (told payload e .1)) (length-digits 8 22 (number 11 (c .0)))
 
 -- sets of channels and 22-byte strings are one to one
-pub channels-back : (channels : List ℕ) → length channels ≡ 16 → Below 11 channels → channelsOf (bytesOf channels) ≡ channels
-channels-back cs n h = subst (λ (m : ℕ). digits 11 m (number 8 (bytesOf cs)) ≡ cs) n (there-and-back 8 11 22 cs h (omega (arith, n)))
+pub channels-back : (channels : List ℕ) → length channels ≡ 16 → Below 11 channels → channelsOf (channelBytes channels) ≡ channels
+channels-back cs n h = subst (λ (m : ℕ). digits 11 m (number 8 (channelBytes cs)) ≡ cs) n (there-and-back 8 11 22 cs h (omega (arith, n)))
 
-pub bytes-back : (payload : List ℕ) → length payload ≡ 22 → Bytes payload → bytesOf (channelsOf payload) ≡ payload
+pub bytes-back : (payload : List ℕ) → length payload ≡ 22 → Bytes payload → channelBytes (channelsOf payload) ≡ payload
 bytes-back bs n h = subst (λ (m : ℕ). digits 8 m (number 11 (channelsOf bs)) ≡ bs) n (there-and-back 11 8 16 bs h (omega (arith, n)))
 
 -- channels up to 2047 are written
 pub channels-image :
-    (c : RcChannelsPacked) → length (c .0) ≡ 16 → Below 11 (c .0) → channelsImage c ≡ bytes (bytesOf (c .0))
+    (c : RcChannelsPacked) → length (c .0) ≡ 16 → Below 11 (c .0) → channelsImage c ≡ bytes (channelBytes (c .0))
 channels-image c n h = image-bytes c (omega (arith, not-above (c .0) h))
 
 -- READING AFTER WRITING, whatever stands behind

@@ -17,8 +17,8 @@ abbrev pub channelsOf : List ℕ → List ℕ
 channelsOf payload = digits 11 16 (number 8 payload)
 
 -- the 22 bytes, little-endian, of the number whose bits 11 i to 11 i + 10 are channel i
-abbrev pub bytesOf : List ℕ → List ℕ
-bytesOf channels = digits 8 22 (number 11 channels)
+abbrev pub channelBytes : List ℕ → List ℕ
+channelBytes channels = digits 8 22 (number 11 channels)
 
 -- reading: refusal 4 under 22 bytes, with every channel 0; bytes past the 22 are ignored
 unfoldable pub channelsRead : List ℕ → ChannelsRead
@@ -34,4 +34,4 @@ firstAbove (c ∷ cs) = if ltb 2047 c then 0 else suc (firstAbove cs)
 
 -- what there is to write: refusal 6 with the first channel above 2047, else the 22 bytes
 unfoldable pub channelsImage : RcChannelsPacked → Image
-channelsImage c = if ltb (firstAbove (c .0)) 16 then refused (ChannelRange (firstAbove (c .0))) else bytes (bytesOf (c .0))
+channelsImage c = if ltb (firstAbove (c .0)) 16 then refused (ChannelRange (firstAbove (c .0))) else bytes (channelBytes (c .0))

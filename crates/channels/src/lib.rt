@@ -7,7 +7,7 @@ ghost use lib.ListN.{length, getD};
 ghost use Rattle.base.specs.Parts.{part, pasted};
 ghost use Rattle.layout.specs.Writing.{writeOf};
 ghost use Rattle.channels.specs.Digits.{Below};
-ghost use Rattle.channels.specs.Channels.{channelsOf, bytesOf, channelsRead, firstAbove, channelsImage};
+ghost use Rattle.channels.specs.Channels.{channelsOf, channelBytes, channelsRead, firstAbove, channelsImage};
 
 // Sixteen raw channel values. Those up to 2047 can be written.
 pub struct RcChannelsPacked(pub [u16; 16]);
@@ -34,11 +34,7 @@ fn wide16(channel: u16) -> u32
 fn byte_at(payload: &[u8], at: usize) -> u32
     ensures { λ r. ⌜ (r ≡ getD (now (payload .entry)) at 0) × (r < 256) ⌝ }
 {
-    if at < payload.len() {
-        wide8(payload[at])
-    } else {
-        0
-    }
+    wide8(base::byte_at(payload, at))
 }
 
 // Channel `i` starts at bit 11 i and lies within three bytes.
@@ -70,7 +66,7 @@ fn channel_at(channels: &[u16], i: usize) -> u32
 fn byte_of(channels: &[u16], i: usize) -> u8
     requires { ⌜ i < 22 ⌝ }
     requires { ⌜ Below 11 (now channels) ⌝ }
-    ensures { λ r. ⌜ r ≡ getD (bytesOf (now (channels .entry))) i 0 ⌝ }
+    ensures { λ r. ⌜ r ≡ getD (channelBytes (now (channels .entry))) i 0 ⌝ }
 {
     let bit = i * 8;
     let at = bit / 11;
@@ -84,7 +80,7 @@ fn byte_of(channels: &[u16], i: usize) -> u8
 fn put_group(buffer: &mut [u8], channels: &[u16], from: usize)
     requires { ⌜ (from + 11 ≤ 22) × (from + 11 ≤ length (now buffer)) ⌝ }
     requires { ⌜ Below 11 (now channels) ⌝ }
-    ensures { λ _. ⌜ now (buffer .exit) ≡ pasted (now (buffer .entry)) from (part (bytesOf (now (channels .entry))) from 11) ⌝ }
+    ensures { λ _. ⌜ now (buffer .exit) ≡ pasted (now (buffer .entry)) from (part (channelBytes (now (channels .entry))) from 11) ⌝ }
 {
     for i in 0..11 {
         buffer[from + i] = byte_of(channels, from + i);

@@ -1,5 +1,5 @@
--- Document 01, "Both sides of each edge": the cases marked P, in one table. What each says stands with what it is about, in the crates' own
--- `Edges`; here they are put together.
+-- Document 01, "Both sides of each edge": the cases marked P, with C8 3E and the example of "The listing", in one table. What each
+-- says stands with what it is about, in the crates' own `Edges`; here they are put together.
 -- Assumes nothing.
 use mathlib.Core.Path.{_≡_}
 use mathlib.Core.List.{List, [], _∷_, _++_, map}

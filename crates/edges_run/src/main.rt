@@ -1,5 +1,5 @@
-// Runs document 01's "Both sides of each edge", every case: what the library says is written line by line and held to the stored output, which
-// is document 01's own words.
+// Runs every case of document 01's "Both sides of each edge", and that 0 reads as -10000 dm. What the library says is written line by line; the
+// stored output was made from document 01.
 use altitude::Decimetres;
 use channels::RcChannelsPacked;
 use layout::Written;

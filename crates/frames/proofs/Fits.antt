@@ -7,15 +7,13 @@ use native.Mathlib.Omega.{arith}
 use lib.Dec.{eqb}
 use lib.ListN.{length}
 use Rattle.base.proofs.Tests.{by-test, below}
-use Rattle.layout.specs.Writing.{Image, refused}
-use Rattle.layout.specs.declared.Written.the-variants.{InvalidPayloadLength}
-use Rattle.channels.specs.Channels.{firstAbove, bytesOf, channelsImage}
+use Rattle.layout.specs.Writing.{Image}
+use Rattle.channels.specs.Channels.{firstAbove, channelBytes, channelsImage}
 use Rattle.channels.specs.declared.RcChannelsPacked.{RcChannelsPacked}
 use Rattle.channels.proofs.Laws.{image-refused, image-bytes, channels-length}
 use Rattle.rpm.specs.Rpm.{rpmBytes, rpmImage}
 use Rattle.rpm.specs.declared.Rpm.{Rpm}
-use Rattle.rpm.proofs.RunLaws as runs
-use Rattle.rpm.proofs.RpmLaws.{rpm-image, rpm-at-most}
+use Rattle.rpm.proofs.RpmLaws.{rpm-image, rpm-refused, rpm-at-most}
 use Rattle.layout.specs.Layout.{recordBytes}
 use Rattle.records.specs.LinkStatistics.{linkStatisticsImage}
 use Rattle.positions.specs.Gps.{gpsImage}
@@ -39,12 +37,8 @@ pub channels-small : (c : RcChannelsPacked) → Small (channelsImage c)
 channels-small c =
     ⊎-elim
     (λ (bad : firstAbove (c .0) < 16). small-as (image-refused c bad) tt)
-    (λ (good : 16 ≤ firstAbove (c .0)). small-as (image-bytes c good) (omega (arith, channels-length c (bytesOf (c .0)) (image-bytes c good))))
+    (λ (good : 16 ≤ firstAbove (c .0)). small-as (image-bytes c good) (omega (arith, channels-length c (channelBytes (c .0)) (image-bytes c good))))
     (below (firstAbove (c .0)) 16)
-
-rpm-refused : (r : Rpm) → 19 < r .count → rpmImage r ≡ refused InvalidPayloadLength
-unfolding rpmImage
-rpm-refused r = runs.image-refused 3 19 (r .«rpm_source_id») (r .«rpm_values») (r .count)
 
 pub rpm-small : (r : Rpm) → Small (rpmImage r)
 rpm-small r =

@@ -1,4 +1,4 @@
--- Numbers for the answers to questions.
+-- The number that `crsf_header_of` answers for each kind of header.
 -- Assumes nothing.
 use Prim.Native.Nat.{ℕ}
 use Rattle.packets.specs.declared.Header.{Header}

@@ -14,7 +14,7 @@ ghost use mathlib.Core.Path.{_≡_};
 ghost use Rattle.saved.specs.Save.{saveLentOf, restoreLentOf, resetLentOf};
 ghost use Rattle.told.specs.Answer.{packed};
 ghost use Rattle.told.specs.Call.{Calls};
-ghost use Rattle.told.specs.State.{tells, heldCount};
+ghost use Rattle.told.specs.State.{tells, toldHeld};
 
 // One call: the first answer of the held bytes followed by the input.
 #[no_mangle]
@@ -51,7 +51,7 @@ pub extern "C" fn crsf_restore(state: &mut [u8], form: &[u8]) -> u64
 // How many bytes are held.
 #[no_mangle]
 pub extern "C" fn crsf_held(state: &[u8]) -> u64
-    ensures { λ r. ⌜ r ≡ packed (heldCount (now (state .entry))) ⌝ }
+    ensures { λ r. ⌜ r ≡ packed (toldHeld (now (state .entry))) ⌝ }
 {
     if state.len() != 66 {
         return refuse(8);

@@ -1,5 +1,5 @@
 -- Document 01, "Numbers returned", for writers: "buffer shorter than what would be written: zero written, buffer unchanged", and "a write that
--- succeeds changes no byte past those it reports".
+-- succeeds changes no byte past those it reports". Also the number of a reader's answer that stands beside its record.
 -- Assumes nothing.
 use Prim.Native.Nat.{ℕ}
 use mathlib.Core.List.{List, [], _∷_}

@@ -19,9 +19,9 @@ pub struct LinkStatistics {
     // dB.
     pub uplink_snr: i8,
     pub active_antenna: u8,
-    // 4 frames per second is 0, then 50, 150.
+    // 0 is 4 frames per second, 1 is 50, 2 is 150.
     pub rf_mode: u8,
-    // 0 mW is 0, then 10, 25, 100, 500, 1000, 2000, 250, 50.
+    // 0 is 0 mW, 1 is 10, 2 is 25, 3 is 100, 4 is 500, 5 is 1000, 6 is 2000, 7 is 250, 8 is 50.
     pub uplink_tx_power: u8,
     pub downlink_rssi: u8,
     pub downlink_link_quality: u8,

@@ -16,7 +16,7 @@ use Rattle.saved.specs.Save.{Told, saveOf, saveLentOf, restoreLentOf, resetLent
 use Rattle.saved.proofs.Forms.{length-form, savable}
 use Rattle.saved.proofs.Laws.{held-group}
 use Rattle.told.specs.Answer.{packed, toldCount, toldRefusal, inBytes}
-use Rattle.told.specs.State.{toldState, tells, heldCount}
+use Rattle.told.specs.State.{toldState, tells, toldHeld}
 use Rattle.told.proofs.Fits.{in-bytes}
 
 form-short : (places : List ℕ) (start end : ℕ) → isSavable (length places) start end ≡ true → length (savedForm (heldIn places start end)) < 256
@@ -65,20 +65,20 @@ module _ {t : Told} {b : List ℕ} {x : Told × List ℕ} (e : (t, b) ≡ x) whe
 -- ---- The count of held bytes, by the tests on the way
 
 module _ (state : List ℕ) {start end : ℕ} (first : start ≡ getD state 0 0) (second : end ≡ getD state 1 0) where
-  pub crossed : length state ≡ 66 → end < start → toldRefusal 8 ≡ heldCount state
-  unfolding heldCount
+  pub crossed : length state ≡ 66 → end < start → toldRefusal 8 ≡ toldHeld state
+  unfolding toldHeld
   crossed size h = simp (← first, ← second, eq-eqb _ _ size, lt-leb _ _ h)
 
-  pub past : length state ≡ 66 → start ≤ end → 64 < end → toldRefusal 8 ≡ heldCount state
-  unfolding heldCount
+  pub past : length state ≡ 66 → start ≤ end → 64 < end → toldRefusal 8 ≡ toldHeld state
+  unfolding toldHeld
   past size low h = simp (← first, ← second, eq-eqb _ _ size, le-leb _ _ low, lt-leb _ _ h)
 
-  pub holds : length state ≡ 66 → start ≤ end → end ≤ 64 → toldCount ((end - start) % 256) ≡ heldCount state
-  unfolding heldCount
+  pub holds : length state ≡ 66 → start ≤ end → end ≤ 64 → toldCount ((end - start) % 256) ≡ toldHeld state
+  unfolding toldHeld
   holds size low h =
       let few : end - start < 256 = omega arith in
       simp (mod-eq-of-lt few, ← first, ← second, eq-eqb _ _ size, le-leb _ _ low, le-leb _ _ h)
 
-pub unsized : (state : List ℕ) → (length state ≡ 66 → ⊥) → toldRefusal 8 ≡ heldCount state
-unfolding heldCount
+pub unsized : (state : List ℕ) → (length state ≡ 66 → ⊥) → toldRefusal 8 ≡ toldHeld state
+unfolding toldHeld
 unsized state h = simp (ne-eqb _ _ h)

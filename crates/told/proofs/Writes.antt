@@ -24,12 +24,11 @@ use Rattle.layout.specs.declared.ReadAnswer.the-variants as answer
 use Rattle.rpm.specs.Rpm.{rpmMade, rpmImage}
 use Rattle.rpm.specs.declared.Rpm.{Rpm}
 use Rattle.rpm.specs.declared.RpmRead.{RpmRead}
-use Rattle.rpm.proofs.RunLaws as runs
-use Rattle.rpm.proofs.RpmLaws.{rpm-image}
+use Rattle.rpm.proofs.RpmLaws.{rpm-image, rpm-refused}
 use Rattle.frames.specs.Frames.{framedBody, framed, Small}
 use Rattle.frames.proofs.Built.{frame-size}
 use Rattle.told.specs.Answer.{packed}
-use Rattle.told.specs.Write.{toldWritten, inByte, toldWrite, frames, refusedFor, sixteenImage, madeImage, newRpmImage}
+use Rattle.told.specs.Write.{toldWritten, inByte, toldWrite, toldFrame, refusedFor, sixteenImage, madeImage, newRpmImage}
 
 -- what fits a byte is told as it is
 abbrev Fits : Written → Type 0
@@ -59,7 +58,7 @@ framed-fits dest kind image buffer small index =
     by-test (listed dest) (λ t. simp t (body-fits dest kind image buffer small index)) (λ t. simp t)
 
 module _ (dest kind : ℕ) (image : Image) (buffer : List ℕ) {w : Written} {after : List ℕ} (e : (w, after) ≡ writeOf (framed dest kind image) buffer) where
-  pub frame-told : {r : ℕ} → Small image → IndexFits image → r ≡ packed (toldWritten (inByte w)) → (r, after) ≡ frames dest kind image buffer
+  pub frame-told : {r : ℕ} → Small image → IndexFits image → r ≡ packed (toldWritten (inByte w)) → (r, after) ≡ toldFrame dest kind image buffer
   frame-told small index p =
       let fits : Fits w = rw (ap (λ (x : Written × List ℕ). x .0) e) (framed-fits dest kind image buffer small index) in
       ap (λ (n : ℕ). (n, after)) (p ∙ ap (λ (x : Written). packed (toldWritten x)) fits) ∙ ap toldWrite e
@@ -72,10 +71,6 @@ channels-index c =
     (λ (bad : firstAbove (c .0) < 16). subst IndexFits (sym (image-refused c bad)) (ap ChannelRange (mod-eq-of-lt (omega arith))))
     (λ (good : 16 ≤ firstAbove (c .0)). subst IndexFits (sym (image-bytes c good)) tt)
     (below (firstAbove (c .0)) 16)
-
-rpm-refused : (r : Rpm) → 19 < r .count → rpmImage r ≡ refused InvalidPayloadLength
-unfolding rpmImage
-rpm-refused r = runs.image-refused 3 19 (r .«rpm_source_id») (r .«rpm_values») (r .count)
 
 pub rpm-index : (r : Rpm) → IndexFits (rpmImage r)
 rpm-index r =

@@ -5,15 +5,15 @@ use mathlib.Core.List.{List, [], _∷_}
 use Rattle.told.specs.declared.answer.Told.{Told}
 
 -- in the struct's order
-abbrev pub bytesOf : Told → List ℕ
-bytesOf t = t .number ∷ t .taken ∷ t .in_state ∷ t .at ∷ t .len ∷ t .first ∷ t .second ∷ 0 ∷ []
+abbrev pub eightBytes : Told → List ℕ
+eightBytes t = t .number ∷ t .taken ∷ t .in_state ∷ t .at ∷ t .len ∷ t .first ∷ t .second ∷ 0 ∷ []
 
 unfoldable pub lowestFirst : List ℕ → ℕ
 lowestFirst [] = 0
 lowestFirst (b ∷ bs) = b + 256 * lowestFirst bs
 
 abbrev pub packed : Told → ℕ
-packed t = lowestFirst (bytesOf t)
+packed t = lowestFirst (eightBytes t)
 
 -- a number, what was taken, and what the number carries
 abbrev pub toldNumber : ℕ → ℕ → ℕ → ℕ → Told

@@ -20,8 +20,8 @@ abbrev pub tells : saved.Told × List ℕ → ℕ × List ℕ
 tells x = (packed (toldState (x .0)), x .1)
 
 -- refusal 8 for what is no state
-unfoldable pub heldCount : List ℕ → Told
-heldCount state =
+unfoldable pub toldHeld : List ℕ → Told
+toldHeld state =
     if eqb (length state) 66 && isSpan 64 (getD state 0 0) (getD state 1 0)
     then toldCount (getD state 1 0 - getD state 0 0)
     else toldRefusal 8

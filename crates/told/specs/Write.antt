@@ -41,8 +41,8 @@ abbrev pub toldWrite : Written × List ℕ → ℕ × List ℕ
 toldWrite x = (packed (toldWritten (x .0)), x .1)
 
 -- what is told of a frame of this address, type and payload, and the buffer afterwards
-abbrev pub frames : ℕ → ℕ → Image → List ℕ → ℕ × List ℕ
-frames dest kind image buffer = toldWrite (writeOf (framed dest kind image) buffer)
+abbrev pub toldFrame : ℕ → ℕ → Image → List ℕ → ℕ × List ℕ
+toldFrame dest kind image buffer = toldWrite (writeOf (framed dest kind image) buffer)
 
 -- ---- Records that are made of a slice
 

@@ -1,4 +1,4 @@
-// The eight bytes.
+// What every entry for a host answers: eight bytes, and these as one number.
 use base::narrow;
 ghost use mathlib.Core.Path.{_≡_};
 ghost use Prim.Native.Nat.{_+_, _*_, _^_, _%_, _<_};
@@ -14,9 +14,9 @@ pub struct Told {
     pub in_state: u8,
     // where a frame begins there
     pub at: u8,
-    // how many bytes a frame has, or were written, or are held
+    // how many bytes a frame has, or were written, or are held; or how many numbers were read
     pub len: u8,
-    // what a refusal carries
+    // what a refusal carries; the source id of an RPM record that was read
     pub first: u8,
     pub second: u8,
 }

@@ -1,4 +1,4 @@
--- A loop that copies the first numbers of a list over those of another, one a turn, and what is given then.
+-- What the readers for a host give: numbers copied to the front of a slice, then each record by what its reader answers.
 -- Assumes nothing.
 use mathlib.Core.Path.{_≡_, sym, ap, _∙_}
 use mathlib.Core.List.{List, [], _++_}

@@ -35,8 +35,8 @@ impl CrsfParser {
 
     /// The next frame or refusal of the stream, or `None` where more input is needed; `input` goes on behind what was taken.
     ///
-    /// A frame that lies whole in `input` is lent from there, one that came in pieces from the parser. Call again until `None`: an answer may be due
-    /// with no input left. Input that is still unread then is all taken and held.
+    /// A frame is lent from `input` if nothing was held before the call, else from the parser. Call again until `None`: an answer may be due with no
+    /// input left. With `None` all of `input` is taken and held.
     ///
     /// ```
     /// use crsf_host::{CrsfParser, CrsfStreamError};

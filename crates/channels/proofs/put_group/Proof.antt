@@ -7,7 +7,7 @@ use native.Mathlib.Omega.{arith}
 use borrow.Author.Needs.{needs}
 use lib.ListN.{length, set, length-set}
 use Rattle.channels.specs.Digits.{number}
-use Rattle.channels.specs.Channels.{bytesOf}
+use Rattle.channels.specs.Channels.{channelBytes}
 use Rattle.channels.proofs.Digits.{length-digits}
 use Rattle.channels.proofs.Fill.{filling, fill-start, fill-next}
 use Rattle.channels.proofs.put_group.Statement.{statement}
@@ -15,7 +15,7 @@ use Rattle.channels.proofs.put_group.Tie as tie
 
 abbrev Inv-loop : tie.InvT-loop
 Inv-loop buffer₀ channels from i₀ buffer i =
-    (i ≤ 11) × (buffer ≡ filling (bytesOf channels) buffer₀ from i) × (length buffer ≡ length buffer₀)
+    (i ≤ 11) × (buffer ≡ filling (channelBytes channels) buffer₀ from i) × (length buffer ≡ length buffer₀)
 
 abbrev μ-loop : tie.MeasureT-loop
 μ-loop buffer₀ channels from i₀ buffer i = 11 - i
@@ -23,7 +23,7 @@ abbrev μ-loop : tie.MeasureT-loop
 loop-holds : tie.Need-loop-holds Inv-loop μ-loop
 loop-holds c =
     let start = c .before .before .args in
-    (omega arith, fill-start (bytesOf (start .channels .now)) (start .buffer .now) (start .from), refl)
+    (omega arith, fill-start (channelBytes (start .channels .now)) (start .buffer .now) (start .from), refl)
 
 add-byte-of : tie.Need-add-byte-of Inv-loop μ-loop
 add-byte-of c = search needs
@@ -47,7 +47,7 @@ loop-again : tie.Need-loop-again Inv-loop μ-loop
 loop-again c =
     let at-loop = c .before .before in
     let start = at-loop .before .before .before .args in
-    let s : List ℕ = bytesOf (start .channels .now) in
+    let s : List ℕ = channelBytes (start .channels .now) in
     let d : List ℕ = start .buffer .now in
     let i : ℕ = at-loop .loop .i in
     let from : ℕ = start .from in
@@ -66,7 +66,7 @@ returns : tie.Need-returns Inv-loop μ-loop
 returns c =
     let start = c .before .before .before .before .args in
     let all : c .before .loop .i ≡ 11 = omega arith in
-    c .before .loop .inv .1 ∙ ap (filling (bytesOf (start .channels .now)) (start .buffer .now) (start .from)) all
+    c .before .loop .inv .1 ∙ ap (filling (channelBytes (start .channels .now)) (start .buffer .now) (start .from)) all
 
 pub put-group-spec : {M : Type 1} → statement M
 put-group-spec =

@@ -10,7 +10,7 @@ use Rattle.base.specs.Parts.{pasted}
 use Rattle.layout.specs.declared.Written.the-variants.{Wrote}
 use Rattle.layout.proofs.Writing.{writes, overflows, refuses}
 use Rattle.channels.specs.Digits.{number, Below}
-use Rattle.channels.specs.Channels.{bytesOf, firstAbove}
+use Rattle.channels.specs.Channels.{channelBytes, firstAbove}
 use Rattle.channels.proofs.Digits.{length-digits}
 use Rattle.channels.proofs.FirstAbove.{none-above}
 use Rattle.channels.proofs.Fill.{two-halves}
@@ -30,7 +30,7 @@ in-range c =
     let sixteen : length (Start-of c .args .self .0) ≡ 16 = search needs in
     none-above (Start-of c .args .self .0) (omega (arith, good c))
 
-wrote : (c : tie.Else1) → length (bytesOf (Start-of c .args .self .0)) ≡ 22
+wrote : (c : tie.Else1) → length (channelBytes (Start-of c .args .self .0)) ≡ 22
 wrote c = length-digits 8 22 (number 11 (Start-of c .args .self .0))
 
 slice-aggregate-first-above : tie.Need-slice-aggregate-first-above
@@ -49,7 +49,7 @@ returns-2 : tie.Need-returns-2
 returns-2 c =
     let start = Start-of (c .before) .args in
     rw (image-bytes (start .self) (good (c .before)))
-    (overflows (bytesOf (start .self .0)) (start .buffer .now) 22 (wrote (c .before)) (omega arith))
+    (overflows (channelBytes (start .self .0)) (start .buffer .now) 22 (wrote (c .before)) (omega arith))
 
 slice-aggregate-put-group : tie.Need-slice-aggregate-put-group
 slice-aggregate-put-group c = search needs
@@ -74,7 +74,7 @@ returns-3 c =
     let right = room .before in
     let start = Start-of right .args in
     let d : List ℕ = start .buffer .now in
-    let s : List ℕ = bytesOf (start .self .0) in
+    let s : List ℕ = channelBytes (start .self .0) in
     let stored : second .put-group2 .last .0 ≡ pasted d 0 s =
     rw (second .put-group2 .ensures, first .put-group .ensures) (two-halves s d 11 (wrote right) (omega arith)) in
     rw (image-bytes (start .self) (good right))

@@ -4,7 +4,7 @@ use Rattle.layout.specs.Writing.{Image}
 use Rattle.layout.specs.declared.Written.{Written}
 use Rattle.channels.specs.Channels.{channelsImage}
 use Rattle.frames.proofs.Fits.{channels-small}
-use Rattle.told.specs.Write.{frames}
+use Rattle.told.specs.Write.{toldFrame}
 use Rattle.told.proofs.Writes.{frame-told, channels-index, no-record, is-sixteen, not-sixteen}
 use borrow.Author.Needs.{needs}
 use Rattle.host.proofs.write.crsf_write_rc_channels_packed.Statement.{statement}
@@ -21,7 +21,7 @@ returns c =
     let test = c .before .before in
     let a = test .before .before .before .args in
     frame-told _ _ _ _ (ap (λ (w : Written). (w, a .buffer .now)) (c .before .no-record .ensures) ∙ no-record (a .dest) 0x16 (a .buffer .now)) tt refl (c .wrote .ensures)
-    ∙ ap (λ (i : Image). frames (a .dest) 0x16 i (a .buffer .now)) (sym (not-sixteen (a .channels .now) (test .if1 .taken)))
+    ∙ ap (λ (i : Image). toldFrame (a .dest) 0x16 i (a .buffer .now)) (sym (not-sixteen (a .channels .now) (test .if1 .taken)))
 
 sixteen-requires : tie.Need-sixteen-requires
 sixteen-requires c κs = search needs
@@ -41,7 +41,7 @@ returns-2 c =
     let test = sent .before .before .before in
     let a = test .before .before .before .args in
     frame-told _ _ _ _ (sent .write-rc-channels-packed .ensures) (channels-small _) (channels-index _) (c .wrote2 .ensures)
-    ∙ ap (λ (i : Image). frames (a .dest) 0x16 i (a .buffer .now))
+    ∙ ap (λ (i : Image). toldFrame (a .dest) 0x16 i (a .buffer .now))
     (ap channelsImage (sent .before .sixteen .ensures) ∙ sym (is-sixteen (a .channels .now) (test .if1 .left)))
 
 pub crsf-write-rc-channels-packed-spec : {M : Type 1} → statement M
