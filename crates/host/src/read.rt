@@ -22,7 +22,7 @@ use values::give_channels;
 use values::gps_extended_values;
 use values::gps_values;
 use values::link_statistics_values;
-use values::run;
+use values::told_rpm;
 ghost use mathlib.Core.Path.{_≡_};
 ghost use Rattle.records.specs.LinkStatistics.{linkStatisticsRead};
 ghost use Rattle.positions.specs.Gps.{gpsRead};
@@ -127,7 +127,7 @@ pub extern "C" fn crsf_read_rpm(payload: &[u8], out: &mut [i32]) -> u64
     match answer {
         ReadAnswer::Record => {
             let values = rpm.rpm_values;
-            give(run(narrow(n), rpm.rpm_source_id), &values, n, out)
+            give(told_rpm(narrow(n), rpm.rpm_source_id), &values, n, out)
         }
         ReadAnswer::InvalidPayloadLength => refuse(4),
     }

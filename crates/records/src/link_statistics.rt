@@ -98,7 +98,7 @@ impl LinkStatistics {
     }
 
     // The first five fields, bytes 0 to 4.
-    fn put_uplink(self, buffer: &mut [u8])
+    fn put_first_five(self, buffer: &mut [u8])
         requires { ⌜ 10 ≤ length (now buffer) ⌝ }
         ensures { λ _. ⌜ now (buffer .exit) ≡ pasted (now (buffer .entry)) 0 (recordBytes (take 5 linkStatisticsLayout) (take 5 (linkStatisticsValues self))) ⌝ }
     {
@@ -110,7 +110,7 @@ impl LinkStatistics {
     }
 
     // The other five, bytes 5 to 9.
-    fn put_downlink(self, buffer: &mut [u8])
+    fn put_other_five(self, buffer: &mut [u8])
         requires { ⌜ 10 ≤ length (now buffer) ⌝ }
         ensures { λ _. ⌜ now (buffer .exit) ≡ pasted (now (buffer .entry)) 5 (recordBytes (drop 5 linkStatisticsLayout) (drop 5 (linkStatisticsValues self))) ⌝ }
     {
@@ -127,8 +127,8 @@ impl LinkStatistics {
         if buffer.len() < Self::MIN_PAYLOAD_SIZE {
             return Written::BufferOverflow;
         }
-        self.put_uplink(buffer);
-        self.put_downlink(buffer);
+        self.put_first_five(buffer);
+        self.put_other_five(buffer);
         Written::Wrote(Self::MIN_PAYLOAD_SIZE)
     }
 }

@@ -30,7 +30,7 @@ use Rattle.rpm.specs.Rpm.{rpmField, rpmRead}
 use Rattle.rpm.specs.declared.RpmRead.{RpmRead}
 use Rattle.told.specs.declared.answer.Told.{Told}
 use Rattle.told.specs.Answer.{packed, toldCount, toldRefusal}
-use Rattle.values.specs.Read.{given, gives, keptBattery, byAnswer, givesChannels, toldRun, givesRpm}
+use Rattle.values.specs.Read.{given, gives, keptBattery, byAnswer, givesChannels, toldRpm, givesRpm}
 
 module _ {A : Type 0} (s d : List A) where
   pub copy-more : (z : A) (i : ℕ) → i < length s → i < length d → set (take i s ++ drop i d) i (getD s i z) ≡ take (i + 1) s ++ drop (i + 1) d
@@ -71,7 +71,7 @@ module _ {m : ChannelsRead} (payload out : List ℕ) (read : m ≡ channelsRead 
   channels-refused = by-channels
 
 abbrev runOf : RpmRead → List ℤ → ℕ × List ℤ
-runOf m out = given (toldRun (m .rpm .count) (m .rpm .«rpm_source_id»)) (take (m .rpm .count) (m .rpm .«rpm_values»)) out
+runOf m out = given (toldRpm (m .rpm .count) (m .rpm .«rpm_source_id»)) (take (m .rpm .count) (m .rpm .«rpm_values»)) out
 
 module _ {m : RpmRead} (payload : List ℕ) (out : List ℤ) (read : m ≡ rpmRead payload) where
   by-rpm : {a : ReadAnswer} → m .answer ≡ a → byAnswer a (runOf m out) out ≡ givesRpm (rpmRead payload) out

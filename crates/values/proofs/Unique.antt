@@ -8,7 +8,7 @@ use Rattle.base.proofs.Unique.{OneAnswer, same}
 use Rattle.told.specs.declared.answer.Told.{Told}
 use Rattle.values.proofs.give.Reads as give
 use Rattle.values.proofs.give_channels.Reads as give-channels
-use Rattle.values.proofs.run.Reads as run
+use Rattle.values.proofs.told_rpm.Reads as told-rpm
 use Rattle.values.proofs.link_statistics_values.Reads as link-statistics-values
 use Rattle.values.proofs.gps_values.Reads as gps-values
 use Rattle.values.proofs.gps_extended_values.Reads as gps-extended-values
@@ -21,8 +21,8 @@ give-one κs a r r′ s s′ = same
 pub give-channels-one : OneAnswer {Seen = ℕ × List ℕ} give-channels.Post (λ κs r s. (r, now (s .1 .0)))
 give-channels-one κs a r r′ s s′ = same
 
-pub run-one : OneAnswer {Seen = Told} run.Post (λ κs r s. r)
-run-one κs a r r′ s s′ = same
+pub told-rpm-one : OneAnswer {Seen = Told} told-rpm.Post (λ κs r s. r)
+told-rpm-one κs a r r′ s s′ = same
 
 pub link-statistics-values-one : OneAnswer {Seen = List ℤ} link-statistics-values.Post (λ κs r s. r)
 link-statistics-values-one κs a r r′ s s′ = same

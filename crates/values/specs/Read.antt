@@ -42,9 +42,9 @@ unfoldable pub givesChannels : ChannelsRead → List ℕ → ℕ × List ℕ
 givesChannels read out = byAnswer (read .answer) (given (toldCount 16) (read .channels .0) out) out
 
 -- how many values, and the source id
-abbrev pub toldRun : ℕ → ℕ → Told
-toldRun n id = record { number = 0; taken = 0; in_state = 0; at = 0; len = n; first = id; second = 0 }
+abbrev pub toldRpm : ℕ → ℕ → Told
+toldRpm n id = record { number = 0; taken = 0; in_state = 0; at = 0; len = n; first = id; second = 0 }
 
 unfoldable pub givesRpm : RpmRead → List ℤ → ℕ × List ℤ
 givesRpm read out =
-    byAnswer (read .answer) (given (toldRun (read .rpm .count) (read .rpm .«rpm_source_id»)) (take (read .rpm .count) (read .rpm .«rpm_values»)) out) out
+    byAnswer (read .answer) (given (toldRpm (read .rpm .count) (read .rpm .«rpm_source_id»)) (take (read .rpm .count) (read .rpm .«rpm_values»)) out) out

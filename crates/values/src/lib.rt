@@ -20,7 +20,7 @@ ghost use Rattle.records.specs.LinkStatistics.{linkStatisticsValues};
 ghost use Rattle.records.specs.Battery.{batteryValues};
 ghost use Rattle.records.specs.BaroAltitude.{baroAltitudeValues};
 ghost use Rattle.told.specs.Answer.{toldCount};
-ghost use Rattle.values.specs.Read.{given, keptBattery, toldRun};
+ghost use Rattle.values.specs.Read.{given, keptBattery, toldRpm};
 
 // How many values the first n are: n, or all that there are.
 fn at_most(values: &[i32], n: usize) -> usize
@@ -133,8 +133,9 @@ pub fn give_channels(channels: RcChannelsPacked, out: &mut [u16]) -> u64
     count(16)
 }
 
-pub fn run(n: u8, id: u8) -> Told
-    ensures { λ r. ⌜ r ≡ toldRun n id ⌝ }
+// How many RPM values were read, and the source id.
+pub fn told_rpm(n: u8, id: u8) -> Told
+    ensures { λ r. ⌜ r ≡ toldRpm n id ⌝ }
 {
     Told {
         number: 0,

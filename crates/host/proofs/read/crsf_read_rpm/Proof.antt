@@ -5,7 +5,7 @@ use native.Mathlib.Nat.{mod-eq-of-lt}
 use native.Mathlib.Omega.{arith}
 use lib.ListN.{take}
 use Rattle.told.specs.declared.answer.Told.{Told}
-use Rattle.values.specs.Read.{given, toldRun}
+use Rattle.values.specs.Read.{given, toldRpm}
 use Rattle.values.proofs.Given.{rpm-given, rpm-refused, rpm-few}
 use borrow.Author.Needs.{needs}
 use Rattle.host.proofs.read.crsf_read_rpm.Statement.{statement}
@@ -20,8 +20,8 @@ enum-told c = search needs
 narrow-requires : tie.Need-narrow-requires
 narrow-requires c κs = search needs
 
-run-requires : tie.Need-run-requires
-run-requires c κs = search needs
+told-rpm-requires : tie.Need-told-rpm-requires
+told-rpm-requires c κs = search needs
 
 slice-aggregate-give : tie.Need-slice-aggregate-give
 slice-aggregate-give c = search needs
@@ -48,7 +48,7 @@ returns c =
     let rpm = read .from-bytes .result .rpm in
     let few : rpm .count < 256 = omega (arith, rpm-few (a .payload .now) (read .from-bytes .ensures)) in
     gave .give .ensures
-    ∙ ap (λ (t : Told). given t (take (rpm .count) (rpm .«rpm_values»)) (a .out .now)) (made .run .ensures ∙ ap (λ (n : ℕ). toldRun n (rpm .«rpm_source_id»)) (made .before .narrow .ensures ∙ mod-eq-of-lt few))
+    ∙ ap (λ (t : Told). given t (take (rpm .count) (rpm .«rpm_values»)) (a .out .now)) (made .told-rpm .ensures ∙ ap (λ (n : ℕ). toldRpm n (rpm .«rpm_source_id»)) (made .before .narrow .ensures ∙ mod-eq-of-lt few))
     ∙ rpm-given (a .payload .now) (a .out .now) (read .from-bytes .ensures) (told .enum-told .given .1)
 
 returns-2 : tie.Need-returns-2
@@ -65,7 +65,7 @@ crsf-read-rpm-spec =
     from-bytes-requires
     enum-told
     narrow-requires
-    run-requires
+    told-rpm-requires
     slice-aggregate-give
     give-requires
     enum-told-2

@@ -11,11 +11,11 @@ returns : tie.Need-returns
 unfolding linkStatisticsValues
 returns c = no-room linkStatisticsLayout (linkStatisticsValues (c .before .before .args .self)) (lit≤ tt) (c .before .before .args .buffer .now) (c .if1 .taken)
 
-put-uplink-requires : tie.Need-put-uplink-requires
-put-uplink-requires c κs = search needs
+put-first-five-requires : tie.Need-put-first-five-requires
+put-first-five-requires c κs = search needs
 
-put-downlink-requires : tie.Need-put-downlink-requires
-put-downlink-requires c κs = search needs
+put-other-five-requires : tie.Need-put-other-five-requires
+put-other-five-requires c κs = search needs
 
 same-length : tie.Need-same-length
 same-length c = search needs
@@ -28,8 +28,8 @@ returns-2 c =
     let room = first .before .before in
     let start = room .before .before in
     wrote-in-two linkStatisticsLayout (linkStatisticsValues (start .args .self)) (lit≤ tt) (start .args .buffer .now) 5 (room .if1 .left)
-    (first .put-uplink .ensures) (second .put-downlink .ensures)
+    (first .put-first-five .ensures) (second .put-other-five .ensures)
 
 pub to-bytes-spec : {M : Type 1} → statement M
 to-bytes-spec =
-    tie.close (tie.spec returns put-uplink-requires put-downlink-requires same-length returns-2)
+    tie.close (tie.spec returns put-first-five-requires put-other-five-requires same-length returns-2)

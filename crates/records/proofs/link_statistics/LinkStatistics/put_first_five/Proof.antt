@@ -1,12 +1,12 @@
--- `records::link_statistics::LinkStatistics::put_uplink` meets its contract: its fields are written at their places of the layout.
+-- `records::link_statistics::LinkStatistics::put_first_five` meets its contract: its fields are written at their places of the layout.
 -- Assumes nothing.
 use native.Mathlib.Omega.{arith}
 use lib.ListN.{take}
 use Rattle.records.specs.LinkStatistics.{linkStatisticsLayout, linkStatisticsValues}
 use Rattle.fields.proofs.Writers.{Typed, putFrom, put-fields}
 use borrow.Author.Needs.{needs}
-use Rattle.records.proofs.link_statistics.LinkStatistics.put_uplink.Statement.{statement}
-use Rattle.records.proofs.link_statistics.LinkStatistics.put_uplink.Tie as tie
+use Rattle.records.proofs.link_statistics.LinkStatistics.put_first_five.Statement.{statement}
+use Rattle.records.proofs.link_statistics.LinkStatistics.put_first_five.Tie as tie
 
 put-u8-requires : tie.Need-put-u8-requires
 put-u8-requires c κs = search needs
@@ -42,8 +42,8 @@ returns c =
     put-fields (take 5 linkStatisticsLayout) (take 5 (linkStatisticsValues (start .args .self))) 0 (start .args .buffer .now) (omega (arith, start .pre)) (typed start)
     (rw (active-antenna .put-u84 .ensures, uplink-snr .put-i8 .ensures, uplink-link-quality .put-u83 .ensures, uplink-rssi2 .put-u82 .ensures, uplink-rssi1 .put-u8 .ensures))
 
-pub put-uplink-spec : {M : Type 1} → statement M
-put-uplink-spec =
+pub put-first-five-spec : {M : Type 1} → statement M
+put-first-five-spec =
     tie.close
     (tie.spec
     put-u8-requires

@@ -1,12 +1,12 @@
--- `records::link_statistics::LinkStatistics::put_downlink` meets its contract: its fields are written at their places of the layout.
+-- `records::link_statistics::LinkStatistics::put_other_five` meets its contract: its fields are written at their places of the layout.
 -- Assumes nothing.
 use native.Mathlib.Omega.{arith}
 use lib.ListN.{drop}
 use Rattle.records.specs.LinkStatistics.{linkStatisticsLayout, linkStatisticsValues}
 use Rattle.fields.proofs.Writers.{Typed, putFrom, put-fields}
 use borrow.Author.Needs.{needs}
-use Rattle.records.proofs.link_statistics.LinkStatistics.put_downlink.Statement.{statement}
-use Rattle.records.proofs.link_statistics.LinkStatistics.put_downlink.Tie as tie
+use Rattle.records.proofs.link_statistics.LinkStatistics.put_other_five.Statement.{statement}
+use Rattle.records.proofs.link_statistics.LinkStatistics.put_other_five.Tie as tie
 
 put-u8-requires : tie.Need-put-u8-requires
 put-u8-requires c κs = search needs
@@ -42,8 +42,8 @@ returns c =
     put-fields (drop 5 linkStatisticsLayout) (drop 5 (linkStatisticsValues (start .args .self))) 5 (start .args .buffer .now) (omega (arith, start .pre)) (typed start)
     (rw (downlink-snr .put-i8 .ensures, downlink-link-quality .put-u84 .ensures, downlink-rssi .put-u83 .ensures, uplink-tx-power .put-u82 .ensures, rf-mode .put-u8 .ensures))
 
-pub put-downlink-spec : {M : Type 1} → statement M
-put-downlink-spec =
+pub put-other-five-spec : {M : Type 1} → statement M
+put-other-five-spec =
     tie.close
     (tie.spec
     put-u8-requires
