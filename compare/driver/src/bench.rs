@@ -164,7 +164,6 @@ macro_rules! record_rows {
     }};
 }
 
-#[cfg(altitudes)]
 fn altitude_rows() {
     let heights: Vec<i32> = (0..MANY as i32).map(|i| i * 80 - 10_000).collect();
     row("altitude packed", "value", MANY, || sum(&heights, |d| u64::from(pack_rust(d))), || sum(&heights, |d| u64::from(ours::pack_altitude(d))));
@@ -172,19 +171,16 @@ fn altitude_rows() {
     row("altitude unpacked", "value", MANY, || sum(&words, |w| unpack_rust(w) as u64), || sum(&words, |w| ours::baro_decimetres(w) as u64));
 }
 
-#[cfg(altitudes)]
 #[inline(never)]
 fn pack_rust(decimetres: i32) -> u16 {
     BaroAltitude::get_altitude_packed(decimetres)
 }
 
-#[cfg(altitudes)]
 #[inline(never)]
 fn unpack_rust(packed: u16) -> i32 {
     BaroAltitude { altitude_packed: packed, vertical_speed_packed: 0 }.get_altitude_dm()
 }
 
-#[cfg(altitudes)]
 fn sum<T: Copy>(inputs: &[T], each: impl Fn(T) -> u64) -> u64 {
     inputs.iter().map(|x| each(black_box(*x))).fold(0, u64::wrapping_add)
 }
@@ -310,7 +306,6 @@ pub fn run(emulated: bool, listing: Option<Listing>) {
     );
     row("check byte of a long string", "byte", noise.len(), || u64::from(CHECK.checksum(&noise)), || u64::from(ours::checksum(&noise)));
     record_row_of_each_kind();
-    #[cfg(altitudes)]
     altitude_rows();
     if let Some(listing) = listing {
         listing_row(&listing);

@@ -88,14 +88,9 @@ mod entry {
         pub fn crsf_read_battery(p: *const u8, n: usize, out: *mut i32, out_len: usize) -> Answer;
         pub fn crsf_read_baro_altitude(p: *const u8, n: usize, out: *mut i32, out_len: usize) -> Answer;
         pub fn crsf_read_rpm(p: *const u8, n: usize, out: *mut i32, out_len: usize) -> Answer;
-        #[cfg(altitudes)]
         pub fn crsf_pack_altitude(decimetres: i32) -> u16;
-        #[cfg(altitudes)]
         pub fn crsf_baro_decimetres(packed: u16) -> i32;
-        #[cfg(altitudes)]
         pub fn crsf_gps_metres(raw: u16) -> i32;
-        #[cfg(microseconds)]
-        pub fn crsf_channel_microseconds(raw: u16, out: *mut f32, out_len: usize) -> Answer;
     }
 }
 
@@ -218,24 +213,16 @@ pub fn read_rpm(p: &[u8], out: &mut [i32]) -> Answer {
     unsafe { entry::crsf_read_rpm(p.as_ptr(), p.len(), out.as_mut_ptr(), out.len()) }
 }
 
-#[cfg(altitudes)]
 #[inline]
 pub fn pack_altitude(decimetres: i32) -> u16 {
     unsafe { entry::crsf_pack_altitude(decimetres) }
 }
 
-#[cfg(altitudes)]
 #[inline]
 pub fn baro_decimetres(packed: u16) -> i32 {
     unsafe { entry::crsf_baro_decimetres(packed) }
 }
 
-#[cfg(altitudes)]
 pub fn gps_metres(raw: u16) -> i32 {
     unsafe { entry::crsf_gps_metres(raw) }
-}
-
-#[cfg(microseconds)]
-pub fn channel_microseconds(raw: u16, out: &mut [f32]) -> Answer {
-    unsafe { entry::crsf_channel_microseconds(raw, out.as_mut_ptr(), out.len()) }
 }

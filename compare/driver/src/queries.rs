@@ -3,7 +3,6 @@ use crate::gen::{hex, Rng};
 use crate::ours::{self, Answer, State};
 use crate::report::Report;
 use crc::{Crc, CRC_8_DVB_S2};
-#[cfg(altitudes)]
 use uf_crsf::packets::BaroAltitude;
 use uf_crsf::{PacketAddress, PacketType};
 
@@ -47,18 +46,11 @@ pub fn compare(report: &mut Report, seed: u64) {
             }
         }
     });
-    #[cfg(altitudes)]
     altitudes(report, &mut r);
-    #[cfg(not(altitudes))]
-    report.left_out("altitudes: every d from -10100 to 328000, every packed word", "libhost.a has no entry for it");
-    #[cfg(microseconds)]
-    microseconds(report);
-    #[cfg(not(microseconds))]
-    report.left_out("channel microseconds: every word", "libhost.a has no entry for it");
+    report.left_out("channel microseconds: every word", "they have no host entry");
     bad_states(report, &mut r);
 }
 
-#[cfg(altitudes)]
 fn altitudes(report: &mut Report, r: &mut Rng) {
     report.family("altitude packed: every d from -10100 to 328000, ends of i32, random", |f| {
         let random: Vec<i32> = (0..200_000).map(|_| r.next() as i32).collect();
@@ -76,18 +68,6 @@ fn altitudes(report: &mut Report, r: &mut Rng) {
     report.family("GPS metres: every word, by document 01 alone", |f| {
         for raw in 0..=u16::MAX {
             f.same(i32::from(raw) - 1000, ours::gps_metres(raw), || format!("metres of {raw}"));
-        }
-    });
-}
-
-#[cfg(microseconds)]
-fn microseconds(report: &mut Report) {
-    report.family("channel microseconds: every word, by document 01 alone", |f| {
-        for raw in 0..=u16::MAX {
-            let mut out = [0.5f32; 2];
-            let got = ours::channel_microseconds(raw, &mut out[..1]);
-            let (number, micros) = if raw <= 2047 { (ours::OK, (f32::from(raw) - 992.0) * 5.0 / 8.0 + 1500.0) } else { (ours::CHANNEL_RANGE, 0.5) };
-            f.same((number, micros.to_bits(), 0.5), (got.number, out[0].to_bits(), out[1]), || format!("microseconds of {raw}"));
         }
     });
 }

@@ -9,7 +9,7 @@ use stream::step::Answer;
 ghost use mathlib.Core.Path.{_≡_};
 ghost use Prim.Native.Nat.{_+_, _-_, _≤_};
 ghost use lib.ListN.{length, getD};
-ghost use Rattle.lines.specs.Lines.{longest, frameLine, byteLine, crcLine, heldLineOf};
+ghost use Rattle.lines.specs.Lines.{longest, frameLine, frameLineAt, byteLine, crcLine, heldLineOf};
 ghost use Rattle.lines.specs.Put.{Puts, lineBy, putLineOf};
 
 fn put_frame(out: &mut [u8], at: usize, address: u8, kind: u8, payload: u8) -> usize
@@ -67,7 +67,7 @@ fn payload_of(length: u8) -> u8
 // The frame that begins s at place p.
 fn put_frame_at(s: &[u8], p: usize, out: &mut [u8], at: usize) -> usize
     requires { ⌜ at + longest ≤ length (now out) ⌝ }
-    ensures { λ r. ⌜ (Puts (now (out .entry)) at (let l = now (s .entry) in frameLine (getD l p 0) (getD l (p + 2) 0) (getD l (p + 1) 0 - 2)) (now (out .exit)) r) × (r ≤ at + longest) ⌝ }
+    ensures { λ r. ⌜ (Puts (now (out .entry)) at (frameLineAt (now (s .entry)) p) (now (out .exit)) r) × (r ≤ at + longest) ⌝ }
 {
     let payload = payload_of(byte_behind(s, p, 1));
     put_frame(out, at, byte_at(s, p), byte_behind(s, p, 2), payload)

@@ -22,7 +22,7 @@ use Rattle.stream.specs.declared.step.Answer.the-variants.{Stop, InPiece, InHel
 use Rattle.stream.specs.declared.step.Moved.{Moved}
 use Rattle.stream.specs.Places.{heldIn}
 use Rattle.stream.specs.Step.{Said, more, frame, refused, saidOf, meaningOf, asksForMore, Outcome, Moves}
-use Rattle.lines.specs.Lines.{syncWord, lengthWord, frameLine, byteLine, crcLine, line, longest}
+use Rattle.lines.specs.Lines.{syncWord, lengthWord, frameLine, frameLineAt, byteLine, crcLine, line, longest}
 use Rattle.lines.specs.Put.{Puts, lineBy}
 use Rattle.listing.specs.Drain.{asksFor, lineFirst, Turns}
 use Rattle.lines.proofs.Puts.{puts-as}
@@ -80,8 +80,7 @@ framed h {m} {s} (whole p w e) =
 
 -- by the code
 frame-in : (n p : ℕ) (s : List ℕ) → Framed (frame true (take n (drop p s)))
-    → frameLine (getD s p 0) (getD s (p + 2) 0) (getD s (p + 1) 0 - 2)
-    ≡ (let c = take n (drop p s) in frameLine (getD c 0 0) (getD c 2 0) (length c - 4))
+    → frameLineAt s p ≡ (let c = take n (drop p s) in frameLine (getD c 0 0) (getD c 2 0) (length c - 4))
 frame-in n p s (four, size) =
     let c = take n (drop p s) in
     let long = length-take n (drop p s) in
