@@ -5,7 +5,7 @@ use channels::RcChannelsPacked;
 use layout::Written;
 use libc::STDOUT_FILENO;
 use lines::line::list_held;
-use listing::drain::list_in;
+use listing::list_in;
 use records::battery::Battery;
 use rpm::Rpm;
 

@@ -24,9 +24,9 @@ use Rattle.lines.specs.Lines.{line, longest}
 use Rattle.lines.specs.Put.{Puts}
 use Rattle.listing.specs.Listing.{Listing, after, listOf}
 use Rattle.listing.specs.Drain.{asksFor, lineFirst, Turns, Drains, Lists}
-use Rattle.listing.specs.declared.drain.Turn.{Turn}
-use Rattle.listing.specs.declared.drain.Listed.{Listed}
-use Rattle.listing.specs.declared.drain.Status.the-variants.{More, Full, BadState}
+use Rattle.listing.specs.declared.Turn.{Turn}
+use Rattle.listing.specs.declared.Listed.{Listed}
+use Rattle.listing.specs.declared.Status.the-variants.{More, Full, BadState}
 use Rattle.lines.proofs.Puts.{puts-none, puts-then, puts-as, length-puts}
 use Rattle.listing.proofs.Listings.{after-after, at-full, at-stop, at-says, fewer}
 

@@ -2,15 +2,15 @@
 -- Assumes nothing.
 use mathlib.Core.Path.{_≡_, refl}
 use mathlib.Core.List.{map}
-use Rattle.packets.specs.Listed.{listed as is-listed}
+use Rattle.packets.specs.Listed.{listed}
 use Rattle.crc.specs.Remainder.{remainder, remainderFrom, afterByte, shifts, shiftBit}
 use Rattle.reading.specs.Answer.{drops}
 use Rattle.reading.specs.Reading.{reading, readingPast, first, goodLength, passes}
 use Rattle.lines.specs.Digits.{hexDigit, decimalWithin}
 use Rattle.lines.specs.Lines.{frameLine, byteLine, crcLine, heldLine, line, linesOf}
-use Rattle.listing.specs.Shown.{listed}
+use Rattle.listing.specs.Whole.{wholeListing}
 use Rattle.listing.specs.Examples.{Example, examples}
 
-pub examples-hold : map (λ (e : Example). listed 64 (e .input)) examples ≡ map (λ (e : Example). e .text) examples
-unfolding is-listed remainder remainderFrom afterByte shifts shiftBit drops reading readingPast first goodLength passes hexDigit decimalWithin frameLine byteLine crcLine heldLine line linesOf
+pub examples-hold : map (λ (e : Example). wholeListing 64 (e .input)) examples ≡ map (λ (e : Example). e .text) examples
+unfolding listed remainder remainderFrom afterByte shifts shiftBit drops reading readingPast first goodLength passes hexDigit decimalWithin frameLine byteLine crcLine heldLine line linesOf
 examples-hold = refl

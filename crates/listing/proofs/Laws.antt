@@ -26,8 +26,8 @@ use Rattle.stream.proofs.Spans.{span-bounds}
 use Rattle.lines.specs.Lines.{line, linesOf, heldLine, longest}
 use Rattle.listing.specs.Listing.{Listing, full, asking, listFrom, listOf}
 use Rattle.listing.specs.Drain.{Drains, Lists}
-use Rattle.listing.specs.Shown.{listed}
-use Rattle.listing.specs.declared.drain.Listed.{Listed}
+use Rattle.listing.specs.Whole.{wholeListing}
+use Rattle.listing.specs.declared.Listed.{Listed}
 use Rattle.listing.proofs.Listings.{left-is}
 
 pub linesOf-append : (xs ys : List Answer) → linesOf (xs ++ ys) ≡ linesOf xs ++ linesOf ys
@@ -176,7 +176,7 @@ module _ {m : ℕ} {stream held text : List ℕ} (unread : List ℕ) (room : ℕ
       faithful (last .history) .all stops
       ∙ ap (λ (x : List ℕ). record { answers = last .given; tail = x }) (holds-all m (l .held) [] stops ∙ append-nil (l .held))
 
-  pub all-listed : text ++ l .lines ++ heldLine (length (l .held)) ≡ listed m stream
+  pub all-listed : text ++ l .lines ++ heldLine (length (l .held)) ≡ wholeListing m stream
   all-listed =
       ap (λ (x : List ℕ). x ++ heldLine (length (l .held))) (last .lines)
       ∙ ap (λ (r : Reading). linesOf (r .answers) ++ heldLine (length (r .tail))) (sym whole)

@@ -12,9 +12,9 @@ use Rattle.stream.specs.Places.{heldIn}
 use Rattle.stream.specs.Step.{isSpan}
 use Rattle.listing.specs.Listing.{Listing}
 use Rattle.listing.specs.Drain.{statusOf, Drains, Lists}
-use Rattle.listing.specs.declared.drain.Listed.{Listed}
-use Rattle.listing.specs.declared.drain.Status.{Status}
-use Rattle.listing.proofs.drain.list_in.Reads as list-in
+use Rattle.listing.specs.declared.Listed.{Listed}
+use Rattle.listing.specs.declared.Status.{Status}
+use Rattle.listing.proofs.list_in.Reads as list-in
 
 -- what a listing shows
 pub record Shows : Type 0 where

@@ -13,10 +13,10 @@ use Rattle.stream.specs.Step.{isSpan}
 use Rattle.lines.specs.Lines.{line, longest}
 use Rattle.lines.specs.Put.{Puts}
 use Rattle.listing.specs.Listing.{Listing, listOf}
-use Rattle.listing.specs.declared.drain.Turn.{Turn}
-use Rattle.listing.specs.declared.drain.Listed.{Listed}
-use Rattle.listing.specs.declared.drain.Status.{Status}
-use Rattle.listing.specs.declared.drain.Status.the-variants as status
+use Rattle.listing.specs.declared.Turn.{Turn}
+use Rattle.listing.specs.declared.Listed.{Listed}
+use Rattle.listing.specs.declared.Status.{Status}
+use Rattle.listing.specs.declared.Status.the-variants as status
 
 -- ---- one call of the stream, and its line
 

@@ -1,4 +1,4 @@
 pub mod Listing
 pub mod Drain
-pub mod Shown
+pub mod Whole
 pub mod Examples

@@ -1,4 +1,4 @@
--- `listing::drain::drain` meets its contract. The invariant: what is written and taken so far, and the listing from here on, are what is wanted. The
+-- `listing::drain` meets its contract. The invariant: what is written and taken so far, and the listing from here on, are what is wanted. The
 -- measure is how many bytes are held or unread. Assumes nothing.
 use mathlib.Core.Path.{_≡_, _∙_, subst}
 use mathlib.Core.List.{List}
@@ -10,8 +10,8 @@ use Rattle.stream.specs.Places.{heldIn}
 use Rattle.listing.specs.Listing.{listOf}
 use Rattle.listing.specs.Drain.{Turns}
 use Rattle.listing.proofs.Drained.{Going, going-begin, is-span, taken′, out-size′, going-again, going-less, going-more, going-full}
-use Rattle.listing.proofs.drain.drain.Statement.{statement}
-use Rattle.listing.proofs.drain.drain.Tie as tie
+use Rattle.listing.proofs.drain.Statement.{statement}
+use Rattle.listing.proofs.drain.Tie as tie
 
 abbrev Inv-loop : tie.InvT-loop
 Inv-loop places₀ start end input out₀ from₀ to₀ taken₀ at₀ places out from to taken at =

@@ -1,10 +1,10 @@
--- `listing::drain::list_in` meets its contract. Assumes nothing.
+-- `listing::list_in` meets its contract. Assumes nothing.
 use borrow.Author.Tests.{not-true, not-false}
 use Rattle.base.proofs.Tests.{told-not}
 use Rattle.listing.proofs.Drained.{refused-list, drained-list}
 use borrow.Author.Needs.{needs}
-use Rattle.listing.proofs.drain.list_in.Statement.{statement}
-use Rattle.listing.proofs.drain.list_in.Tie as tie
+use Rattle.listing.proofs.list_in.Statement.{statement}
+use Rattle.listing.proofs.list_in.Tie as tie
 
 is-span-requires : tie.Need-is-span-requires
 is-span-requires c κs = search needs

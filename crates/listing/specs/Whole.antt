@@ -7,5 +7,5 @@ use Rattle.reading.specs.Reading.{reading}
 use Rattle.lines.specs.Lines.{linesOf, heldLine}
 
 -- all that the program writes for an input
-abbrev pub listed : ℕ → List ℕ → List ℕ
-listed m stream = let r = reading m stream in linesOf (r .answers) ++ heldLine (length (r .tail))
+abbrev pub wholeListing : ℕ → List ℕ → List ℕ
+wholeListing m stream = let r = reading m stream in linesOf (r .answers) ++ heldLine (length (r .tail))

@@ -1,9 +1,9 @@
--- `listing::drain::list_one` meets its contract. Assumes nothing.
+-- `listing::list_one` meets its contract. Assumes nothing.
 use Rattle.lines.proofs.Puts.{puts-line}
 use Rattle.listing.proofs.Said.{turned}
 use borrow.Author.Needs.{needs}
-use Rattle.listing.proofs.drain.list_one.Statement.{statement}
-use Rattle.listing.proofs.drain.list_one.Tie as tie
+use Rattle.listing.proofs.list_one.Statement.{statement}
+use Rattle.listing.proofs.list_one.Tie as tie
 
 step-in-requires : tie.Need-step-in-requires
 step-in-requires c κs = search needs
