@@ -3,11 +3,12 @@
 use Prim.Native.Nat.{ℕ, _+_, _^_, _<_}
 use mathlib.Core.Path.{_≡_}
 use mathlib.Core.List.{List, [], _∷_, _++_}
-use mathlib.Core.Bool.{Bool, true, false, cond}
+use mathlib.Core.Bool.{Bool, true, false}
 use lib.Dec.{leb}
 use lib.IntN.{ℤ, pos}
 use lib.ListN.{length}
 use lib.Signed.{mag}
+use Rattle.base.specs.Choice.{if_then_else_}
 use Rattle.numbers.specs.BigEndian.{beOf, bytesOf}
 use Rattle.numbers.specs.TwosComplement.{signedOf, twosOf, InRange}
 use Rattle.base.specs.Parts.{part}
@@ -70,4 +71,4 @@ recordBytes (f ∷ fs) (v ∷ vs) = bytesFor f v ++ recordBytes fs vs
 
 -- a payload that holds the fields reads as what `make` makes of their numbers, and bytes behind them are ignored; a shorter one is refused
 abbrev pub readAs : {R : Type 0} → List Field → (List ℤ → R) → R → List ℕ → R
-readAs fs make refusal payload = cond (leb (sizeOf fs) (length payload)) (make (readFrom fs 0 payload)) refusal
+readAs fs make refusal payload = if leb (sizeOf fs) (length payload) then make (readFrom fs 0 payload) else refusal
