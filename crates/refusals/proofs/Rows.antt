@@ -1,0 +1,52 @@
+-- A row is of one refusal, so a promise of the row leaves one refusal. The numbers are spelled here a second time: two of them swapped in the
+-- definition and in the code together are refused here.
+-- Assumes nothing.
+use Prim.Native.Nat.{ℕ}
+use mathlib.Core.Path.{_≡_, refl, sym, ap, _∙_}
+use mathlib.Core.List.{List, _∷_}
+use native.Mathlib.Omega.{arith}
+use lib.Dec.{eqb}
+use lib.ListN.{getD}
+use Rattle.base.specs.Choice.{if_then_else_}
+use Rattle.refusals.specs.declared.Refusal.{Refusal}
+use Rattle.refusals.specs.declared.Refusal.the-variants.{InvalidSync, InvalidPacketLength, InvalidCrc, InvalidPayloadLength, BufferOverflow, ChannelRange, BadAddress, BadState}
+use Rattle.refusals.specs.Row.{rowOf, numberOf}
+
+-- the refusal that a row is of
+abbrev refusalOf : List ℕ → Refusal
+refusalOf row =
+    if eqb (getD row 0 0) 1 then InvalidSync (getD row 1 0) else
+    if eqb (getD row 0 0) 2 then InvalidPacketLength (getD row 1 0) else
+    if eqb (getD row 0 0) 3 then InvalidCrc (getD row 1 0) (getD row 2 0) else
+    if eqb (getD row 0 0) 4 then InvalidPayloadLength else
+    if eqb (getD row 0 0) 5 then BufferOverflow else
+    if eqb (getD row 0 0) 6 then ChannelRange (getD row 1 0) else
+    if eqb (getD row 0 0) 7 then BadAddress else
+    BadState
+
+back : (r : Refusal) → refusalOf (rowOf r) ≡ r
+back (InvalidSync byte) = refl
+back (InvalidPacketLength length) = refl
+back (InvalidCrc calculated carried) = refl
+back InvalidPayloadLength = refl
+back BufferOverflow = refl
+back (ChannelRange index) = refl
+back BadAddress = refl
+back BadState = refl
+
+pub one-refusal : {r s : Refusal} → rowOf r ≡ rowOf s → r ≡ s
+one-refusal {r} {s} same = sym (back r) ∙ ap refusalOf same ∙ back s
+
+-- no refusal has the number 0, which a success has
+by-number : (r : Refusal) → numberOf r ≡ 0 → ⊥
+by-number (InvalidSync byte) e = omega arith
+by-number (InvalidPacketLength length) e = omega arith
+by-number (InvalidCrc calculated carried) e = omega arith
+by-number InvalidPayloadLength e = omega arith
+by-number BufferOverflow e = omega arith
+by-number (ChannelRange index) e = omega arith
+by-number BadAddress e = omega arith
+by-number BadState e = omega arith
+
+pub not-zero : (r : Refusal) {values : List ℕ} → rowOf r ≡ 0 ∷ values → ⊥
+not-zero r {values} e = by-number r (ap (λ (row : List ℕ). getD row 0 0) e)

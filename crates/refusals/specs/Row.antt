@@ -1,0 +1,26 @@
+-- The one definition of a refusal's number and of what it carries (docs/RULES.md, 1). Every promise that speaks of a refusal goes through it.
+-- Assumes nothing.
+use Prim.Native.Nat.{ℕ}
+use mathlib.Core.List.{List, [], _∷_}
+use lib.ListN.{getD}
+use Rattle.refusals.specs.declared.Refusal.{Refusal}
+use Rattle.refusals.specs.declared.Refusal.the-variants.{InvalidSync, InvalidPacketLength, InvalidCrc, InvalidPayloadLength, BufferOverflow, ChannelRange, BadAddress, BadState}
+use Rattle.refusals.specs.declared.Row.{Row}
+
+-- the number, then what is carried
+abbrev pub rowOf : Refusal → List ℕ
+rowOf (InvalidSync byte) = 1 ∷ byte ∷ []
+rowOf (InvalidPacketLength length) = 2 ∷ length ∷ []
+rowOf (InvalidCrc calculated carried) = 3 ∷ calculated ∷ carried ∷ []
+rowOf InvalidPayloadLength = 4 ∷ []
+rowOf BufferOverflow = 5 ∷ []
+rowOf (ChannelRange index) = 6 ∷ index ∷ []
+rowOf BadAddress = 7 ∷ []
+rowOf BadState = 8 ∷ []
+
+abbrev pub numberOf : Refusal → ℕ
+numberOf r = getD (rowOf r) 0 0
+
+-- a row as the code holds it
+abbrev pub shown : List ℕ → Row
+shown row = record { number = getD row 0 0; first = getD row 1 0; second = getD row 2 0 }

@@ -1,0 +1,85 @@
+// The refusals, with what each carries, and each as numbers. A new one is a variant here, an arm of `row_of` and a line of specs/Row.
+ghost use mathlib.Core.Path.{_≡_};
+ghost use Rattle.refusals.specs.Row.{shown, rowOf};
+
+pub enum Refusal {
+    // The byte that is no address.
+    InvalidSync(u8),
+    // The length byte.
+    InvalidPacketLength(u8),
+    InvalidCrc { calculated: u8, carried: u8 },
+    InvalidPayloadLength,
+    BufferOverflow,
+    // The place of the first channel that is too large.
+    ChannelRange(usize),
+    BadAddress,
+    BadState,
+}
+
+// A refusal as numbers: its own, and what it carries; 0 where it carries no more.
+pub struct Row {
+    pub number: u8,
+    pub first: usize,
+    pub second: usize,
+}
+
+// Only this function takes a refusal apart: everything else goes by its row.
+pub fn row_of(refusal: Refusal) -> Row
+    ensures { λ r. ⌜ r ≡ shown (rowOf refusal) ⌝ }
+{
+    match refusal {
+        Refusal::InvalidSync(byte) => {
+            let first = byte as usize;
+            Row {
+                number: 1,
+                first,
+                second: 0,
+            }
+        }
+        Refusal::InvalidPacketLength(length) => {
+            let first = length as usize;
+            Row {
+                number: 2,
+                first,
+                second: 0,
+            }
+        }
+        Refusal::InvalidCrc {
+            calculated,
+            carried,
+        } => {
+            let first = calculated as usize;
+            let second = carried as usize;
+            Row {
+                number: 3,
+                first,
+                second,
+            }
+        }
+        Refusal::InvalidPayloadLength => Row {
+            number: 4,
+            first: 0,
+            second: 0,
+        },
+        Refusal::BufferOverflow => Row {
+            number: 5,
+            first: 0,
+            second: 0,
+        },
+        Refusal::ChannelRange(index) => Row {
+            number: 6,
+            first: index,
+            second: 0,
+        },
+        Refusal::BadAddress => Row {
+            number: 7,
+            first: 0,
+            second: 0,
+        },
+        Refusal::BadState => Row {
+            number: 8,
+            first: 0,
+            second: 0,
+        },
+    }
+}
