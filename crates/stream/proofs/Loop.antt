@@ -146,8 +146,11 @@ module _ {m : ℕ} {stream input places : List ℕ} {start end taken : ℕ} {giv
       whole : c ≡ record { answer = stop; taken = length unread; held = held ++ unread }
       whole = asks-for-more m held unread (answers-first m held unread ∙ asks)
 
+      pub takes-unread : r .taken ≡ length unread
+      takes-unread = taken-is moved ∙ ap (λ (x : Call). x .taken) whole
+
       pub takes-all : taken + r .taken ≡ length input
-      takes-all = omega (arith, taken-is moved, ap (λ (x : Call). x .taken) whole, length-drop taken input, g .inside)
+      takes-all = omega (arith, takes-unread, length-drop taken input, g .inside)
 
       pub holds-rest : heldIn after (r .start) (r .end) ≡ held ++ unread
       holds-rest = held-is moved ∙ ap (λ (x : Call). x .held) whole

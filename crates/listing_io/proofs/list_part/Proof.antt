@@ -5,7 +5,7 @@ use Prim.Native.Nat.{_-_, _≤_, _<_}
 use native.Mathlib.Omega.{arith}
 use lib.ListN.{length, take, drop, length-take, length-drop}
 use borrow.Rule.Slice.PartMut.{same-len-mid}
-use Rattle.listing.proofs.Drained.{list-fits}
+use Rattle.listing.proofs.Filled.{list-fits}
 use Rattle.listing.proofs.Laws.{still-few}
 use borrow.Author.Needs.{needs}
 use Rattle.listing_io.proofs.list_part.Statement.{statement}
