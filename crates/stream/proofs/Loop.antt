@@ -1,5 +1,5 @@
--- What any loop over calls needs, whatever it makes of the answers: what is known at its head, after each turn, and where it asks for more. A turn is
--- one call on what is unread of the input. What is left to the loop's own proof is what it makes of an answer.
+-- What any loop over calls needs, whatever it makes of the answers: what is known at its head, after each turn, and where it asks for more (RULES 6, 7). A turn
+-- is one call on what is unread of the input. What is left to the loop's own proof is what it makes of an answer.
 -- Assumes nothing.
 use mathlib.Core.Path.{_≡_, refl, sym, ap, _∙_, subst}
 use mathlib.Core.Bool.{Bool, true, false, true≢false}
@@ -21,8 +21,8 @@ use Rattle.reading.proofs.Call.{answers-first, rest, call-takes, asks-for-more}
 use Rattle.reading.proofs.History.{so-now, faithful}
 use Rattle.stream.specs.Places.{heldIn}
 use Rattle.stream.specs.Step.{Said, more, frame, refused, saidOf, meaningOf, asksForMore, isSpan, Moves, Steps}
-use Rattle.stream.specs.declared.step.Answer.{Answer}
-use Rattle.stream.specs.declared.step.Answer.the-variants.{Stop, InPiece, InHeld, InvalidSync, InvalidPacketLength, InvalidCrc, BadState}
+use Rattle.stream.specs.declared.step.Reply.{Reply}
+use Rattle.stream.specs.declared.step.Reply.the-variants.{More, Frame, Refused}
 use Rattle.stream.specs.declared.step.Moved.{Moved}
 use Rattle.stream.proofs.Held.{length-held}
 use Rattle.stream.proofs.Spans.{span-bounds}
@@ -39,7 +39,7 @@ stops (says a) = false
 unfoldable saysMore : Said → Bool
 saysMore more = true
 saysMore (frame ofHeld bytes) = false
-saysMore (refused number carried) = false
+saysMore (refused row) = false
 
 more-said : (ofHeld : Bool) (f : First) → saysMore (saidOf ofHeld f) ≡ stops f
 unfolding saysMore saidOf stops
@@ -49,20 +49,16 @@ more-said h (says (reading.InvalidPacketLength c)) = refl
 more-said h (says (reading.InvalidCrc c)) = refl
 more-said h (says (reading.Frame c)) = refl
 
-more-meant : (a : Answer) (piece places : List ℕ) → asksForMore a ≡ saysMore (meaningOf a piece places)
+more-meant : (a : Reply) (piece places : List ℕ) → asksForMore a ≡ saysMore (meaningOf a piece places)
 unfolding saysMore meaningOf
-more-meant Stop piece places = refl
-more-meant (InPiece n) piece places = refl
-more-meant (InHeld at n) piece places = refl
-more-meant (InvalidSync b) piece places = refl
-more-meant (InvalidPacketLength l) piece places = refl
-more-meant (InvalidCrc x y) piece places = refl
-more-meant BadState piece places = refl
+more-meant More piece places = refl
+more-meant (Frame p) piece places = refl
+more-meant (Refused r) piece places = refl
 
 pub asks-where-stops : {m : ℕ} {before : List ℕ} {start end : ℕ} {input after : List ℕ} {r : Moved} → Moves m before start end input after r
-    → asksForMore (r .answer) ≡ stops (call m (heldIn before start end) input .answer)
+    → asksForMore (r .reply) ≡ stops (call m (heldIn before start end) input .answer)
 asks-where-stops {m} {before} {start} {end} {input} {after} {r} moved =
-    more-meant (r .answer) input after ∙ ap saysMore (said-is moved) ∙ more-said _ (call m (heldIn before start end) input .answer)
+    more-meant (r .reply) input after ∙ ap saysMore (said-is moved) ∙ more-said _ (call m (heldIn before start end) input .answer)
 
 -- ---- The loop
 
@@ -134,7 +130,7 @@ module _ {m : ℕ} {stream input places : List ℕ} {start end taken : ℕ} {giv
     again = record { size = steps .same ∙ g .size; span = still-span steps (g .span); inside = takes; history = went }
 
     -- it asked for more: all answers are given, everything is taken, and the tail is held
-    module _ (more-asked : asksForMore (r .answer) ≡ true) where
+    module _ (more-asked : asksForMore (r .reply) ≡ true) where
       stops-by : (f : First) → stops f ≡ true → f ≡ stop
       unfolding stops
       stops-by stop e = refl
@@ -159,7 +155,7 @@ module _ {m : ℕ} {stream input places : List ℕ} {start end taken : ℕ} {giv
       all-given = faithful (g .history) .all asks ∙ ap (λ (s : List ℕ). record { answers = given; tail = s }) (sym (held-is moved))
 
     -- it answered: the answer, and fewer bytes held or unread
-    module _ (not-asked : asksForMore (r .answer) ≡ false) where
+    module _ (not-asked : asksForMore (r .reply) ≡ false) where
       answers-by : {G : Type 0} (f : First) → c .answer ≡ f → stops f ≡ false → ((a : reading.Answer) → c .answer ≡ says a → G) → G
       unfolding stops
       answers-by stop e none go = absurd (true≢false none)
