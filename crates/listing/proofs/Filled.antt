@@ -14,6 +14,7 @@ use Rattle.reading.specs.Answer.{Answer}
 use Rattle.reading.specs.Reading.{First, says}
 use Rattle.reading.specs.Call.{Call, call}
 use Rattle.reading.specs.History.{answered}
+use Rattle.refusals.specs.declared.Refusal.the-variants.{BadState}
 use Rattle.stream.specs.Places.{heldIn}
 use Rattle.stream.specs.Step.{isSpan, asksForMore, Moves}
 use Rattle.stream.proofs.Spans.{span-bounds}
@@ -27,7 +28,7 @@ use Rattle.listing.specs.Listing.{Listing, after, listOf}
 use Rattle.listing.specs.Fill.{Turns, Fills, Lists}
 use Rattle.listing.specs.declared.Turn.{Turn}
 use Rattle.listing.specs.declared.Listed.{Listed}
-use Rattle.listing.specs.declared.Status.the-variants.{More, Full, BadState}
+use Rattle.listing.specs.declared.Status.the-variants.{More, Full, Refused}
 use Rattle.listing.proofs.Listings.{linesOf-append, no-line, one-line, after-after, at-full, at-stop, at-says}
 
 -- the lines of the answers given are written, and what is wanted is these and then the listing from here on
@@ -118,7 +119,7 @@ module _ {m : ℕ} {wanted : Listing} {stream out₀ input places : List ℕ} {f
     out-size′ = length-puts (omega (arith, t .puts .next, t .short, enough)) (t .puts) ∙ f .out-size
 
     -- an answer: its line stands behind the others
-    pub again : asksForMore (r .moved .answer) ≡ false
+    pub again : asksForMore (r .moved .reply) ≡ false
         → Filling m wanted stream out₀ input places′ (r .moved .start) (r .moved .end) (taken + r .moved .taken) (r .at) out′
     again answers =
         loop.answers (f .going) (t .steps) answers
@@ -143,7 +144,7 @@ module _ {m : ℕ} {wanted : Listing} {stream out₀ input places : List ℕ} {f
         })
 
     -- more input is asked for: no line, and the listing is whole
-    pub more : asksForMore (r .moved .answer) ≡ true
+    pub more : asksForMore (r .moved .reply) ≡ true
         → Fills m wanted input out₀ places′ out′
         (record { start = r .moved .start; end = r .moved .end; taken = taken + r .moved .taken; written = r .at; status = More })
     more asked =
@@ -166,7 +167,7 @@ module _ {m : ℕ} {wanted : Listing} {stream out₀ input places : List ℕ} {f
 -- what is not a valid state, and what is one
 module _ {m : ℕ} {before : List ℕ} {start end : ℕ} {input out : List ℕ} where
   pub refused-list : isSpan m start end ≡ false
-      → Lists m before start end input out before out (record { start = start; end = end; taken = 0; written = 0; status = BadState })
+      → Lists m before start end input out before out (record { start = start; end = end; taken = 0; written = 0; status = Refused BadState })
   refused-list bad = record { refuses = λ _. (refl, (refl, refl)); fills = λ good. absurd (true≢false (sym good ∙ bad)) }
 
   pub filled-list : {places outAfter : List ℕ} {r : Listed} → isSpan m start end ≡ true

@@ -6,50 +6,52 @@ use mathlib.Core.List.{List, [], _++_, append-nil}
 use Prim.Native.Nat.{ℕ, _+_, _-_, _≤_}
 use native.Mathlib.Nat.{add-zero}
 use native.Mathlib.Omega.{arith}
-use lib.Dec.{eqb, ltb}
+use lib.Dec.{ltb}
 use lib.ListN.{length, getD, take, drop, length-take}
 use lib.Seq.{getD-take, getD-drop, length-take-le}
-use Rattle.base.specs.Choice.{if_then_else_}
 use Rattle.reading.specs.Answer as reading
-use Rattle.reading.specs.Answer.{number, values}
+use Rattle.reading.specs.Answer.{row}
 use Rattle.reading.specs.Reading.{First, stop, says, frameLength}
 use Rattle.reading.specs.Call.{call}
 use Rattle.reading.specs.History.{answered}
 use Rattle.reading.proofs.Cases.{Case, empty, unlisted, alone, badLength, waits, badCheck, whole, cases}
 use Rattle.reading.proofs.Tests.{good-bounds}
 use Rattle.reading.proofs.Call.{answers-first}
-use Rattle.stream.specs.declared.step.Answer.{Answer}
-use Rattle.stream.specs.declared.step.Answer.the-variants.{Stop, InPiece, InHeld, InvalidSync, InvalidPacketLength, InvalidCrc, BadState}
+use Rattle.stream.specs.declared.step.Place.the-variants.{InPiece, InHeld}
+use Rattle.stream.specs.declared.step.Reply.{Reply}
+use Rattle.stream.specs.declared.step.Reply.the-variants.{More, Frame, Refused}
 use Rattle.stream.specs.declared.step.Moved.{Moved}
 use Rattle.stream.specs.Places.{heldIn}
 use Rattle.stream.specs.Step.{Said, more, frame, refused, saidOf, meaningOf, Moves}
-use Rattle.lines.specs.Lines.{syncWord, lengthWord, frameLine, frameLineAt, byteLine, crcLine, line, linesOf}
-use Rattle.lines.specs.Put.{lineBy}
 use Rattle.stream.proofs.Drain.{said-is}
+use Rattle.lines.specs.Lines.{frameLine, frameLineAt, line, refusalLine, linesOf}
+use Rattle.lines.specs.Put.{lineBy}
+use Rattle.lines.proofs.Rows.{lineOf, line-of-row}
 
 -- the line of what is said
 unfoldable lineSaid : Said → List ℕ
 lineSaid more = []
 lineSaid (frame h c) = frameLine (getD c 0 0) (getD c 2 0) (length c - 4)
-lineSaid (refused n vs) =
-    if eqb n 1 then byteLine syncWord (getD vs 0 0) else
-    if eqb n 2 then byteLine lengthWord (getD vs 0 0) else
-    if eqb n 3 then crcLine (getD vs 0 0) (getD vs 1 0) else []
+lineSaid (refused row) = refusalLine row
 
 -- by the reading
+line-said : (h : Bool) (a : reading.Answer) → lineSaid (saidOf h (says a)) ≡ lineOf (row a)
+unfolding lineSaid saidOf row
+line-said h (reading.InvalidSync c) = refl
+line-said h (reading.InvalidPacketLength c) = refl
+line-said h (reading.InvalidCrc c) = refl
+line-said h (reading.Frame c) = refl
+
 line-read : (h : Bool) (f : First) → lineSaid (saidOf h f) ≡ linesOf (answered f)
-unfolding lineSaid saidOf answered linesOf line number values
+unfolding lineSaid saidOf answered linesOf
 line-read h stop = refl
-line-read h (says (reading.InvalidSync c)) = sym (append-nil (line (reading.InvalidSync c)))
-line-read h (says (reading.InvalidPacketLength c)) = sym (append-nil (line (reading.InvalidPacketLength c)))
-line-read h (says (reading.InvalidCrc c)) = sym (append-nil (line (reading.InvalidCrc c)))
-line-read h (says (reading.Frame c)) = sym (append-nil (line (reading.Frame c)))
+line-read h (says a) = line-said h a ∙ sym (line-of-row a) ∙ sym (append-nil (line a))
 
 -- a frame has the size that its length byte says
 abbrev Framed : Said → Type 0
 Framed more = Unit {0}
 Framed (frame h c) = (4 ≤ length c) × (getD c 1 0 + 2 ≡ length c)
-Framed (refused n vs) = Unit {0}
+Framed (refused row) = Unit {0}
 
 framed : (h : Bool) {m : ℕ} {s : List ℕ} {f : First} → Case m s f → Framed (saidOf h f)
 unfolding saidOf
@@ -80,15 +82,12 @@ frame-in n p s (four, size) =
     ∙ ap (λ (k : ℕ). frameLine (getD c 0 0) k (getD s (p + 1) 0 - 2)) third
     ∙ ap (frameLine (getD c 0 0) (getD c 2 0)) payload
 
-line-meant : (a : Answer) (piece places : List ℕ) → Framed (meaningOf a piece places) → lineBy a piece places ≡ lineSaid (meaningOf a piece places)
+line-meant : (a : Reply) (piece places : List ℕ) → Framed (meaningOf a piece places) → lineBy a piece places ≡ lineSaid (meaningOf a piece places)
 unfolding lineBy meaningOf lineSaid
-line-meant Stop piece places w = refl
-line-meant (InPiece n) piece places w = frame-in n 0 piece w
-line-meant (InHeld p n) piece places w = frame-in n p places w
-line-meant (InvalidSync b) piece places w = refl
-line-meant (InvalidPacketLength l) piece places w = refl
-line-meant (InvalidCrc a b) piece places w = refl
-line-meant BadState piece places w = refl
+line-meant More piece places w = refl
+line-meant (Frame (InPiece n)) piece places w = frame-in n 0 piece w
+line-meant (Frame (InHeld p n)) piece places w = frame-in n p places w
+line-meant (Refused r) piece places w = refl
 
 -- one call: the line that is written of it is that of the reading's answer, if any
 module _ {m : ℕ} {before : List ℕ} {start end : ℕ} {input after : List ℕ} {r : Moved} (moved : Moves m before start end input after r) where
@@ -98,10 +97,10 @@ module _ {m : ℕ} {before : List ℕ} {start end : ℕ} {input after : List ℕ
   abbrev answer : First
   answer = call m held input .answer
 
-  frames : Framed (meaningOf (r .answer) input after)
+  frames : Framed (meaningOf (r .reply) input after)
   frames =
       subst Framed (sym (said-is moved))
       (subst (λ (f : First). Framed (saidOf (ltb 0 (length held)) f)) (answers-first m held input) (framed (ltb 0 (length held)) (cases m (held ++ input))))
 
-  pub line-is : linesOf (answered answer) ≡ lineBy (r .answer) input after
-  line-is = sym (line-meant (r .answer) input after frames ∙ ap lineSaid (said-is moved) ∙ line-read (ltb 0 (length held)) answer)
+  pub line-is : linesOf (answered answer) ≡ lineBy (r .reply) input after
+  line-is = sym (line-meant (r .reply) input after frames ∙ ap lineSaid (said-is moved) ∙ line-read (ltb 0 (length held)) answer)

@@ -1,4 +1,5 @@
--- Document 01's example of the listing and the case C8 02 00 01 of its edges, with C8 3F and the empty input: each input, and the text, byte by byte.
+-- The README's example of a listing, a frame with a wrong check byte, the empty input, and a length byte that is too large (RULES 13): each input, and the
+-- text, byte by byte.
 -- Assumes nothing.
 use Prim.Native.Nat.{ℕ}
 use mathlib.Core.List.{List, [], _∷_}

@@ -8,6 +8,7 @@ use lib.ListN.{length}
 use Rattle.base.specs.Parts.{pasted}
 use Rattle.reading.specs.Call.{call}
 use Rattle.reading.specs.History.{answered}
+use Rattle.refusals.specs.declared.Refusal.the-variants.{BadState}
 use Rattle.stream.specs.Places.{heldIn}
 use Rattle.stream.specs.Step.{isSpan, Steps}
 use Rattle.lines.specs.Lines.{linesOf, longest}
@@ -43,5 +44,5 @@ pub record Fills (m : ℕ) (l : Listing) (input out places outAfter : List ℕ) 
 -- what is not a valid state is refused, and nothing is changed; else the buffer is filled with as many lines as there is room for
 pub record Lists (m : ℕ) (before : List ℕ) (start end : ℕ) (input out places outAfter : List ℕ) (r : Listed) : Type 0 where
   pub refuses : isSpan m start end ≡ false
-      → (r ≡ record { start = start; end = end; taken = 0; written = 0; status = status.BadState }) × ((places ≡ before) × (outAfter ≡ out))
+      → (r ≡ record { start = start; end = end; taken = 0; written = 0; status = status.Refused BadState }) × ((places ≡ before) × (outAfter ≡ out))
   pub fills : isSpan m start end ≡ true → Fills m (listOf m (heldIn before start end) input (length out)) input out places outAfter r

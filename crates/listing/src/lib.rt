@@ -1,5 +1,7 @@
 // The lines of the answers to an input, as many as a buffer that the caller lends has room for.
+use lines::line::LONGEST;
 use lines::line::put_line;
+use refusals::Refusal;
 use stream::step::Moved;
 use stream::step::asks_for_more;
 use stream::step::is_span;
@@ -20,8 +22,8 @@ pub enum Status {
     More,
     // The buffer has no room for the longest line.
     Full,
-    // Not a valid state: nothing was changed.
-    BadState,
+    // Nothing was changed.
+    Refused(Refusal),
 }
 
 // Where the held bytes stand now, how many bytes of the input were taken, and how many were written.
@@ -51,8 +53,8 @@ fn list_one(
     ensures { λ r. ⌜ Turns (length (now (places .entry))) (now (places .entry)) start end (now (input .entry)) (now (out .entry)) at (now (places .exit)) (now (out .exit)) r ⌝ }
 {
     let moved = step_in(places, start, end, input);
-    let answer = moved.answer;
-    let next = put_line(answer, input, places, out, at);
+    let reply = moved.reply;
+    let next = put_line(reply, input, places, out, at);
     Turn { moved, at: next }
 }
 
@@ -65,15 +67,15 @@ fn fill(places: &mut [u8], start: usize, end: usize, input: &[u8], out: &mut [u8
     let mut to = end;
     let mut taken = 0;
     let mut at = 0;
-    while 16 <= out.len() - at {
+    while LONGEST <= out.len() - at {
         let one = list_one(places, from, to, &input[taken..], out, at);
         let moved = one.moved;
         from = moved.start;
         to = moved.end;
         taken += moved.taken;
         at = one.at;
-        let answer = moved.answer;
-        if asks_for_more(answer) {
+        let reply = moved.reply;
+        if asks_for_more(reply) {
             return Listed {
                 start: from,
                 end: to,
@@ -102,7 +104,7 @@ pub fn list_in(places: &mut [u8], start: usize, end: usize, input: &[u8], out: &
             end,
             taken: 0,
             written: 0,
-            status: Status::BadState,
+            status: Status::Refused(Refusal::BadState),
         };
     }
     fill(places, start, end, input, out)
