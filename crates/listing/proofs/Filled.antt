@@ -16,7 +16,7 @@ use Rattle.reading.specs.Call.{Call, call}
 use Rattle.reading.specs.History.{answered}
 use Rattle.refusals.specs.declared.Refusal.the-variants.{BadState}
 use Rattle.stream.specs.Places.{heldIn}
-use Rattle.stream.specs.Step.{isSpan, asksForMore, Moves}
+use Rattle.stream.specs.Step.{isSpan, asksForMore, Moves, Steps}
 use Rattle.stream.proofs.Spans.{span-bounds}
 use Rattle.stream.proofs.Drain.{taken-is, held-is}
 use Rattle.stream.proofs.Loop as loop
@@ -102,38 +102,52 @@ module _ {m : ℕ} {wanted : Listing} {stream out₀ input places : List ℕ} {f
         buffer = f .puts .written ∙ ap (pasted out₀ 0) (sym (append-nil (linesOf (f .given))));
       })
 
-  module _ {places′ out′ : List ℕ} {r : Turn} (enough : longest ≤ length out - at) (t : Turns m places from to unread out at places′ out′ r) where
+  module _ {places′ out′ : List ℕ} {r : Turn} (enough : longest ≤ length out - at) (t : Turns places from to unread out at places′ out′ r) where
+    steps : Steps m places from to unread places′ (r .moved)
+    steps = subst (λ (k : ℕ). Steps k places from to unread places′ (r .moved)) (f .going .size) (t .steps)
+
     moved : Moves m places from to unread places′ (r .moved)
-    moved = t .steps .moves (f .going .span)
+    moved = steps .moves (f .going .span)
+
+    puts : Puts out at (linesOf (answered answer)) out′ (r .at)
+    puts = puts-as (ap (λ (k : ℕ). linesOf (answered (call k held unread .answer))) (sym (f .going .size))) (t .puts)
 
     enough₀ : longest ≤ length out₀ - at
     enough₀ = omega (arith, enough, f .out-size)
 
     puts-all : Puts out₀ 0 (linesOf (f .given) ++ linesOf (answered answer)) out′ (r .at)
-    puts-all = puts-then (omega (arith, at-is, f .room)) (f .puts) (t .puts)
+    puts-all = puts-then (omega (arith, at-is, f .room)) (f .puts) puts
 
     room′ : r .at ≤ length out₀
     room′ = omega (arith, t .short, enough₀)
 
     pub out-size′ : length out′ ≡ length out₀
-    out-size′ = length-puts (omega (arith, t .puts .next, t .short, enough)) (t .puts) ∙ f .out-size
+    out-size′ = length-puts (omega (arith, puts .next, t .short, enough)) puts ∙ f .out-size
+
+    -- no more is taken than there is, and each answer leaves fewer bytes held or unread
+    pub takes : taken + r .moved .taken ≤ length input
+    takes = loop.takes (f .going) steps
+
+    pub less : asksForMore (r .moved .reply) ≡ false
+        → (r .moved .end - r .moved .start) + (length input - (taken + r .moved .taken)) < (to - from) + (length input - taken)
+    less answers = loop.less (f .going) steps answers
 
     -- an answer: its line stands behind the others
     pub again : asksForMore (r .moved .reply) ≡ false
         → Filling m wanted stream out₀ input places′ (r .moved .start) (r .moved .end) (taken + r .moved .taken) (r .at) out′
     again answers =
-        loop.answers (f .going) (t .steps) answers
+        loop.answers (f .going) steps answers
         (λ a e.
         let c = call m held unread in
         let one : linesOf (answered answer) ≡ line a = one-line a e in
         let lines : linesOf (f .given) ++ line a ≡ linesOf (f .given ++ answered answer) =
         ap (λ (x : List ℕ). linesOf (f .given) ++ x) (sym one) ∙ sym (linesOf-append (f .given) (answered answer)) in
-        let next : r .at ≡ at + length (line a) = t .puts .next ∙ ap (λ (x : List ℕ). at + length x) one in
+        let next : r .at ≡ at + length (line a) = puts .next ∙ ap (λ (x : List ℕ). at + length x) one in
         let left : length out₀ - at - length (line a) ≡ length out₀ - r .at = omega arith in
         let taking : taken + c .taken ≡ taken + r .moved .taken = ap (λ (n : ℕ). taken + n) (sym (taken-is moved)) in
         record {
           given = f .given ++ answered answer;
-          going = loop.again (f .going) (t .steps);
+          going = loop.again (f .going) steps;
           room = room′;
           out-size = out-size′;
           puts = puts-as (linesOf-append (f .given) (answered answer)) puts-all;
@@ -148,36 +162,37 @@ module _ {m : ℕ} {wanted : Listing} {stream out₀ input places : List ℕ} {f
         → Fills m wanted input out₀ places′ out′
         (record { start = r .moved .start; end = r .moved .end; taken = taken + r .moved .taken; written = r .at; status = More })
     more asked =
-        let e = loop.asks (f .going) (t .steps) asked in
+        let e = loop.asks (f .going) steps asked in
         let lines : linesOf (f .given) ++ linesOf (answered answer) ≡ linesOf (f .given) ++ [] = ap (λ (x : List ℕ). linesOf (f .given) ++ x) (no-line e) in
         fills-as
         (f .rest ∙ ap (after (linesOf (f .given)) taken) (at-stop m held unread (length out₀ - at) enough₀ e))
         (record {
           ordered = moved .ordered;
           inside = moved .inside;
-          held-is = loop.holds-rest (f .going) (t .steps) asked;
-          taken-is = ap (λ (n : ℕ). taken + n) (loop.takes-unread (f .going) (t .steps) asked);
+          held-is = loop.holds-rest (f .going) steps asked;
+          taken-is = ap (λ (n : ℕ). taken + n) (loop.takes-unread (f .going) steps asked);
           status-is = refl;
-          taken-in = loop.takes (f .going) (t .steps);
+          taken-in = takes;
           written-in = room′;
           written-is = puts-all .next ∙ zero-add (length (linesOf (f .given) ++ linesOf (answered answer))) ∙ ap length lines;
           buffer = puts-all .written ∙ ap (pasted out₀ 0) lines;
         })
 
 -- what is not a valid state, and what is one
-module _ {m : ℕ} {before : List ℕ} {start end : ℕ} {input out : List ℕ} where
-  pub refused-list : isSpan m start end ≡ false
-      → Lists m before start end input out before out (record { start = start; end = end; taken = 0; written = 0; status = Refused BadState })
+module _ {before : List ℕ} {start end : ℕ} {input out : List ℕ} where
+  pub refused-list : isSpan (length before) start end ≡ false
+      → Lists before start end input out before out (record { start = start; end = end; taken = 0; written = 0; status = Refused BadState })
   refused-list bad = record { refuses = λ _. (refl, (refl, refl)); fills = λ good. absurd (true≢false (sym good ∙ bad)) }
 
-  pub filled-list : {places outAfter : List ℕ} {r : Listed} → isSpan m start end ≡ true
-      → Fills m (listOf m (heldIn before start end) input (length out)) input out places outAfter r → Lists m before start end input out places outAfter r
+  pub filled-list : {places outAfter : List ℕ} {r : Listed} → isSpan (length before) start end ≡ true
+      → Fills (length before) (listOf (length before) (heldIn before start end) input (length out)) input out places outAfter r
+      → Lists before start end input out places outAfter r
   filled-list good d = record { refuses = λ bad. absurd (true≢false (sym good ∙ bad)); fills = λ _. d }
 
   -- valid or not, no more is taken and written than there is
-  pub list-fits : {places outAfter : List ℕ} {r : Listed} → Lists m before start end input out places outAfter r → start ≤ end → end ≤ m
-      → (r .taken ≤ length input) × ((r .written ≤ length out) × ((r .start ≤ r .end) × (r .end ≤ m)))
+  pub list-fits : {places outAfter : List ℕ} {r : Listed} → Lists before start end input out places outAfter r → start ≤ end → end ≤ length before
+      → (r .taken ≤ length input) × ((r .written ≤ length out) × ((r .start ≤ r .end) × (r .end ≤ length before)))
   list-fits {r = r} lists low high =
-      by-test (isSpan m start end)
+      by-test (isSpan (length before) start end)
       (λ good. let d = lists .fills good in (d .taken-in, (d .written-in, (d .ordered, d .inside))))
       (λ bad. let e = lists .refuses bad .0 in rw e (omega arith, (omega arith, (low, high))))

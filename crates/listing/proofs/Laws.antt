@@ -171,13 +171,14 @@ module _ {m : ℕ} {l : Listing} {input₀ out places outAfter : List ℕ} {r : 
       text-as (sym (d .held-is)) (ap (λ (n : ℕ). drop n input) (sym (d .taken-is))) (ap (λ (x : List ℕ). text ++ x) (sym wrote))
       (subst (After m stream held input text) (sym e) (after-listed input room t) .text-on)
 
-pub still-few : {m : ℕ} {before : List ℕ} {start end : ℕ} {input out places outAfter : List ℕ} {r : Listed} → length before ≡ m → length places ≡ m
-    → start ≤ end → end ≤ m → end - start < m → Lists m before start end input out places outAfter r → r .end - r .start < m
-still-few {m} {before} {start} {end} {input} {out} {places} {r = r} was now low high few lists =
+pub still-few : {before : List ℕ} {start end : ℕ} {input out places outAfter : List ℕ} {r : Listed} → length places ≡ length before → start ≤ end
+    → end ≤ length before → end - start < length before → Lists before start end input out places outAfter r → r .end - r .start < length before
+still-few {before} {start} {end} {input} {out} {places} {r = r} same low high few lists =
+    let m = length before in
     by-test (isSpan m start end)
     (λ good.
     let d = lists .fills good in
-    let held = length-held before start end low (omega arith) in
+    let held = length-held before start end low high in
     let left = length-held places (r .start) (r .end) (d .ordered) (omega (arith, d .inside)) in
     let on = after-listed input (length out) (text-offer input (text-begin m (heldIn before start end))) in
     omega (arith, ap length (d .held-is), on .few (span-bounds m start end good .0) (omega arith)))

@@ -38,11 +38,11 @@ by-promise d =
     let w = d .buffer in
     cc
 
-one-listing : (m : ℕ) (before : List ℕ) (start end : ℕ) (input out : List ℕ) {places places′ outAfter outAfter′ : List ℕ} {r r′ : Listed}
-    → Lists m before start end input out places outAfter r → Lists m before start end input out places′ outAfter′ r′
+one-listing : (before : List ℕ) (start end : ℕ) (input out : List ℕ) {places places′ outAfter outAfter′ : List ℕ} {r r′ : Listed}
+    → Lists before start end input out places outAfter r → Lists before start end input out places′ outAfter′ r′
     → shows r places outAfter ≡ shows r′ places′ outAfter′
-one-listing m before start end input out a b =
-    by-test (isSpan m start end)
+one-listing before start end input out a b =
+    by-test (isSpan (length before) start end)
     (λ good. by-promise (a .fills good) ∙ sym (by-promise (b .fills good)))
     (λ bad.
     let p = a .refuses bad in
@@ -56,4 +56,4 @@ one-listing m before start end input out a b =
     cc)
 
 pub list-in-one : OneAnswer {Seen = Shows} list-in.Post (λ κs r s. shows r (now (s .0)) (now (s .1 .1 .1 .1 .0)))
-list-in-one κs a r r′ s s′ = one-listing _ _ _ _ _ _
+list-in-one κs a r r′ s s′ = one-listing _ _ _ _ _

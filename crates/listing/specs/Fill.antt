@@ -20,9 +20,9 @@ use Rattle.listing.specs.declared.Status.{Status}
 use Rattle.listing.specs.declared.Status.the-variants as status
 
 -- one call of the stream, and the line of its answer, if any, at a place with room for the longest
-pub record Turns (m : ℕ) (before : List ℕ) (start end : ℕ) (input out : List ℕ) (at : ℕ) (places outAfter : List ℕ) (r : Turn) : Type 0 where
-  pub steps : Steps m before start end input places (r .moved)
-  pub puts : Puts out at (linesOf (answered (call m (heldIn before start end) input .answer))) outAfter (r .at)
+pub record Turns (before : List ℕ) (start end : ℕ) (input out : List ℕ) (at : ℕ) (places outAfter : List ℕ) (r : Turn) : Type 0 where
+  pub steps : Steps (length before) before start end input places (r .moved)
+  pub puts : Puts out at (linesOf (answered (call (length before) (heldIn before start end) input .answer))) outAfter (r .at)
   pub short : r .at ≤ at + longest
 
 abbrev pub statusOf : Bool → Status
@@ -41,8 +41,10 @@ pub record Fills (m : ℕ) (l : Listing) (input out places outAfter : List ℕ) 
   pub written-in : r .written ≤ length out
   pub buffer : outAfter ≡ pasted out 0 (l .lines)
 
--- what is not a valid state is refused, and nothing is changed; else the buffer is filled with as many lines as there is room for
-pub record Lists (m : ℕ) (before : List ℕ) (start end : ℕ) (input out places outAfter : List ℕ) (r : Listed) : Type 0 where
-  pub refuses : isSpan m start end ≡ false
+-- what is not a valid state is refused, and nothing is changed; else the buffer is filled with as many lines as there is room for. The limit of a frame is
+-- the number of places
+pub record Lists (before : List ℕ) (start end : ℕ) (input out places outAfter : List ℕ) (r : Listed) : Type 0 where
+  pub refuses : isSpan (length before) start end ≡ false
       → (r ≡ record { start = start; end = end; taken = 0; written = 0; status = status.Refused BadState }) × ((places ≡ before) × (outAfter ≡ out))
-  pub fills : isSpan m start end ≡ true → Fills m (listOf m (heldIn before start end) input (length out)) input out places outAfter r
+  pub fills : isSpan (length before) start end ≡ true
+      → Fills (length before) (listOf (length before) (heldIn before start end) input (length out)) input out places outAfter r

@@ -10,11 +10,9 @@ ghost use mathlib.Core.Path.{_≡_};
 ghost use mathlib.Core.Bool.{true};
 ghost use Prim.Native.Nat.{_+_, _≤_};
 ghost use lib.ListN.{length};
-ghost use Rattle.stream.specs.Places.{heldIn};
 ghost use Rattle.stream.specs.Step.{isSpan};
 ghost use Rattle.lines.specs.Lines.{longest};
-ghost use Rattle.listing.specs.Listing.{listOf};
-ghost use Rattle.listing.specs.Fill.{Turns, Fills, Lists};
+ghost use Rattle.listing.specs.Fill.{Turns, Lists};
 
 // Why a listing ended.
 pub enum Status {
@@ -50,7 +48,7 @@ fn list_one(
     at: usize,
 ) -> Turn
     requires { ⌜ (isSpan (length (now places)) start end ≡ true) × (at + longest ≤ length (now out)) ⌝ }
-    ensures { λ r. ⌜ Turns (length (now (places .entry))) (now (places .entry)) start end (now (input .entry)) (now (out .entry)) at (now (places .exit)) (now (out .exit)) r ⌝ }
+    ensures { λ r. ⌜ Turns (now (places .entry)) start end (now (input .entry)) (now (out .entry)) at (now (places .exit)) (now (out .exit)) r ⌝ }
 {
     let moved = step_in(places, start, end, input);
     let reply = moved.reply;
@@ -61,7 +59,7 @@ fn list_one(
 // Calls, while there is room for the longest line.
 fn fill(places: &mut [u8], start: usize, end: usize, input: &[u8], out: &mut [u8]) -> Listed
     requires { ⌜ isSpan (length (now places)) start end ≡ true ⌝ }
-    ensures { λ r. ⌜ Fills (length (now (places .entry))) (listOf (length (now (places .entry))) (heldIn (now (places .entry)) start end) (now (input .entry)) (length (now (out .entry)))) (now (input .entry)) (now (out .entry)) (now (places .exit)) (now (out .exit)) r ⌝ }
+    ensures { λ r. ⌜ Lists (now (places .entry)) start end (now (input .entry)) (now (out .entry)) (now (places .exit)) (now (out .exit)) r ⌝ }
 {
     let mut from = start;
     let mut to = end;
@@ -96,7 +94,7 @@ fn fill(places: &mut [u8], start: usize, end: usize, input: &[u8], out: &mut [u8
 
 // The lines of the answers to the held bytes and then the input.
 pub fn list_in(places: &mut [u8], start: usize, end: usize, input: &[u8], out: &mut [u8]) -> Listed
-    ensures { λ r. ⌜ Lists (length (now (places .entry))) (now (places .entry)) start end (now (input .entry)) (now (out .entry)) (now (places .exit)) (now (out .exit)) r ⌝ }
+    ensures { λ r. ⌜ Lists (now (places .entry)) start end (now (input .entry)) (now (out .entry)) (now (places .exit)) (now (out .exit)) r ⌝ }
 {
     if !is_span(places.len(), start, end) {
         return Listed {

@@ -7,11 +7,11 @@ use native.Mathlib.Omega.{arith}
 use borrow.Author.Needs.{needs}
 use lib.ListN.{length, drop}
 use Rattle.stream.specs.Places.{heldIn}
-use Rattle.stream.proofs.Loop.{unread-is, takes, less}
+use Rattle.stream.proofs.Loop.{unread-is}
 use Rattle.lines.specs.Lines.{longest}
 use Rattle.listing.specs.Listing.{listOf}
 use Rattle.listing.specs.Fill.{Turns}
-use Rattle.listing.proofs.Filled.{Filling, begin, is-span, full, out-size′, again, more}
+use Rattle.listing.proofs.Filled.{Filling, begin, is-span, full, out-size′, takes, less, again, more, filled-list}
 use Rattle.listing.proofs.fill.Statement.{statement}
 use Rattle.listing.proofs.fill.Tie as tie
 
@@ -26,18 +26,15 @@ abbrev μ-loop : tie.MeasureT-loop
 
 -- a turn over what is unread, and what was known before it
 turn : (c : tie.After-list-one Inv-loop μ-loop)
-    → (let at = c .before .before .before .before .before in let s = at .loop in let a = at .before .before .before .before .args in let one = c .list-one in
-    Turns (length (a .places .now)) (s .places) (s .from) (s .to) (drop (s .taken) (a .input .now)) (s .out) (s .at) (one .last .0) (one .last .1 .1 .1 .1 .0) (one .result))
+    → (let at = c .before .before .before .before .before in let s = at .loop in let unread = drop (s .taken) (at .before .before .before .before .args .input .now) in
+    let one = c .list-one in Turns (s .places) (s .from) (s .to) unread (s .out) (s .at) (one .last .0) (one .last .1 .1 .1 .1 .0) (one .result))
 turn c =
     let at = c .before .before .before .before .before in
     let s = at .loop in
-    let a = at .before .before .before .before .args in
     let one = c .list-one in
-    subst (λ (k : ℕ). Turns k (s .places) (s .from) (s .to) (drop (s .taken) (a .input .now)) (s .out) (s .at) (one .last .0) (one .last .1 .1 .1 .1 .0) (one .result))
-    (s .inv .going .size)
-    (subst (λ (l : List ℕ). Turns (length (s .places)) (s .places) (s .from) (s .to) l (s .out) (s .at) (one .last .0) (one .last .1 .1 .1 .1 .0) (one .result))
-    (unread-is (a .input .now) (s .taken))
-    (one .ensures))
+    subst (λ (l : List ℕ). Turns (s .places) (s .from) (s .to) l (s .out) (s .at) (one .last .0) (one .last .1 .1 .1 .1 .0) (one .result))
+    (unread-is (at .before .before .before .before .args .input .now) (s .taken))
+    (one .ensures)
 
 enough : (c : tie.After-list-one Inv-loop μ-loop) → (let s = c .before .before .before .before .before .loop in longest ≤ length (s .out) - s .at)
 enough c = c .before .before .before .before .loop-test .taken
@@ -68,7 +65,7 @@ add-taken : tie.Need-add-taken Inv-loop μ-loop
 add-taken c =
     let one = c .before .before .before .before .before .before in
     let at = one .before .before .before .before .before in
-    omega (arith, takes (at .loop .inv .going) (turn one .steps), at .before .before .before .before .good .1 .1 .1 .0 .0)
+    omega (arith, takes (at .loop .inv) (enough one) (turn one), at .before .before .before .before .good .1 .1 .1 .0 .0)
 
 asks-for-more-requires : tie.Need-asks-for-more-requires Inv-loop μ-loop
 asks-for-more-requires c κs = search needs
@@ -87,14 +84,15 @@ same-length-2 c =
 returns : tie.Need-returns Inv-loop μ-loop
 returns c =
     let one = c .before .before .before .before .before .before .before .before in
-    let loop = one .before .before .before .before .before .loop in
-    more (loop .inv) (enough one) (turn one) (sym (c .before .asks-for-more .ensures) ∙ c .if1 .taken)
+    let at = one .before .before .before .before .before in
+    filled-list (at .before .before .before .before .pre)
+    (more (at .loop .inv) (enough one) (turn one) (sym (c .before .asks-for-more .ensures) ∙ c .if1 .taken))
 
 loop-less : tie.Need-loop-less Inv-loop μ-loop
 loop-less c =
     let one = c .before .before .before .before .before .before .before .before in
     let loop = one .before .before .before .before .before .loop in
-    less (loop .inv .going) (turn one .steps) (sym (c .before .asks-for-more .ensures) ∙ c .if1 .left)
+    less (loop .inv) (enough one) (turn one) (sym (c .before .asks-for-more .ensures) ∙ c .if1 .left)
 
 loop-again : tie.Need-loop-again Inv-loop μ-loop
 loop-again c =
@@ -109,7 +107,7 @@ same-length-4 : tie.Need-same-length-4 Inv-loop μ-loop
 same-length-4 c = c .before .loop .inv .out-size
 
 returns-2 : tie.Need-returns-2 Inv-loop μ-loop
-returns-2 c = full (c .before .loop .inv) (c .loop-test .left)
+returns-2 c = filled-list (c .before .before .before .before .before .pre) (full (c .before .loop .inv) (c .loop-test .left))
 
 pub fill-spec : {M : Type 1} → statement M
 fill-spec =

@@ -1,7 +1,7 @@
 -- `listing::list_in` meets its contract. Assumes nothing.
 use borrow.Author.Tests.{not-true, not-false}
 use Rattle.base.proofs.Tests.{told-not}
-use Rattle.listing.proofs.Filled.{refused-list, filled-list}
+use Rattle.listing.proofs.Filled.{refused-list}
 use borrow.Author.Needs.{needs}
 use Rattle.listing.proofs.list_in.Statement.{statement}
 use Rattle.listing.proofs.list_in.Tie as tie
@@ -23,8 +23,7 @@ same-length-2 : tie.Need-same-length-2
 same-length-2 c = search needs
 
 returns-2 : tie.Need-returns-2
-returns-2 c =
-    filled-list (not-false _ (told-not (c .before .before .before .before .before .before .before .before .is-span .ensures) (c .before .before .before .before .before .before .before .if1 .left))) (c .before .before .before .before .fill .ensures)
+returns-2 c = c .before .before .before .before .fill .ensures
 
 pub list-in-spec : {M : Type 1} → statement M
 list-in-spec =
