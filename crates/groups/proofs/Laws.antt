@@ -19,29 +19,30 @@ use Rattle.groups.proofs.Reading.{Case, on, many, zeroLast, large, last
 
 -- ---- what stands behind a number is the rest of the string
 
-pub record Behind (s rest : List ℕ) : Type 0 where
+pub record Behind (g : ℕ) (s : List ℕ) (n : ℕ) (rest : List ℕ) : Type 0 where
+  pub small : n ≤ g
   pub size : ℕ
   pub some : 1 ≤ size
   pub inside : size ≤ length s
   pub behind : rest ≡ drop size s
 
-rest-from : (g v w : ℕ) (s : List ℕ) (n : ℕ) (t : List ℕ) → 1 ≤ w → run g v w s ≡ ends n t → Behind s t
+rest-from : (g v w : ℕ) (s : List ℕ) (n : ℕ) (t : List ℕ) → 1 ≤ w → run g v w s ≡ ends n t → Behind g s n t
 unfolding run
 rest-from g v w [] n t one e = absurd (not-unfinished e)
 rest-from g v w (b ∷ s) n t one e = by (step g v w b) (cases g v w b) refl (λ v′ w′. rest-from g v′ w′ s n t)
   where
-    by : (x : Step) → Case g v w b x → step g v w b ≡ x → ((v′ w′ : ℕ) → 1 ≤ w′ → run g v′ w′ s ≡ ends n t → Behind s t) → Behind (b ∷ s) t
+    by : (x : Step) → Case g v w b x → step g v w b ≡ x → ((v′ w′ : ℕ) → 1 ≤ w′ → run g v′ w′ s ≡ ends n t → Behind g s n t) → Behind g (b ∷ s) n t
     by x (last low form small) q more =
         let r = same-end (sym (run-done g v w b s q) ∙ e) in
-        record { size = 1; some = omega arith; inside = omega arith; behind = sym (r .1) }
+        record { small = rw (← (r .0)) small; size = 1; some = omega arith; inside = omega arith; behind = sym (r .1) }
     by x (on high room) q more =
         let a = more _ _ (omega arith) (sym (run-on g v w b s q) ∙ e) in
-        record { size = suc (a .size); some = omega arith; inside = omega (arith, a .inside); behind = a .behind }
+        record { small = a .small; size = suc (a .size); some = omega arith; inside = omega (arith, a .inside); behind = a .behind }
     by x (many high none) q more = absurd (not-malformed (sym (run-bad g v w b s q) ∙ e))
     by x (zeroLast low after z) q more = absurd (not-malformed (sym (run-bad g v w b s q) ∙ e))
     by x (large low form much) q more = absurd (not-malformed (sym (run-bad g v w b s q) ∙ e))
 
-pub rest-of : (g : ℕ) (s : List ℕ) {n : ℕ} {t : List ℕ} → read g s ≡ ends n t → Behind s t
+pub rest-of : (g : ℕ) (s : List ℕ) {n : ℕ} {t : List ℕ} → read g s ≡ ends n t → Behind g s n t
 rest-of g s {n} {t} e = rest-from g 0 1 s n t (omega arith) e
 
 -- ---- what the code says of the front
