@@ -1,4 +1,3 @@
-pub mod Groups
 pub mod Form
 pub mod Save
 pub mod Parser
