@@ -16,15 +16,12 @@ use denote.Ref.{now}
 use Rattle.base.proofs.Unique.{same}
 use Rattle.stream.specs.declared.step.Answered.{Answered}
 use Rattle.parser.specs.declared.CrsfParser.{CrsfParser}
-use Rattle.parser.specs.declared.Stepped.{Stepped}
 use Rattle.parser.specs.Parser.{resetOf, heldCount, placesOf, stepped, seenOf, Nexts}
 use Rattle.parser.proofs.Unique.{seen-once}
 use Rattle.parser.proofs.CrsfParser.reset as reset
 use Rattle.parser.proofs.CrsfParser.next_raw_packet as next
 use Rattle.parser.proofs.CrsfParser.held_len as held-len
 use Rattle.parser.proofs.CrsfParser.places as places
-use Rattle.parser.proofs.lent.lend.Reads as lend
-use Rattle.parser.proofs.lent.restart.Reads as restart
 
 -- the promises
 abbrev Resets : CrsfParser → CrsfParser → Type 0
@@ -67,13 +64,3 @@ module _ (p : CrsfParser) where
   pub lent-next-one : (input : List ℕ) (q q′ : CrsfParser) (a a′ : Answered) → length (p .buffer) ≡ 64 → NextsTo p input q a
       → NextsTo p input q′ a′ → seenOf (stepped q a) ≡ seenOf (stepped q′ a′)
   lent-next-one input q q′ a a′ = seen-once p input
-
--- the functions with plain parameters
-pub lend-one : (κs : _) (a : _) (r r′ : Stepped) (s s′ : _) → lend.Post κs a r s → lend.Post κs a r′ s′ → length (a .0 .buffer) ≡ 64
-    → seenOf r ≡ seenOf r′
-lend-one κs a r r′ s s′ p q full = seen-once (a .0) (now (a .1 .0)) full p q
-
-pub restart-one : (κs : _) (a : _) (r r′ : Stepped) (s s′ : _) → restart.Post κs a r s → restart.Post κs a r′ s′ → length (a .0 .buffer) ≡ 64
-    → seenOf r ≡ seenOf r′
-unfolding resetOf
-restart-one κs a r r′ s s′ p q full = seen-once (resetOf (a .0)) (now (a .1 .0)) full p q

@@ -9,9 +9,9 @@ use Rattle.saved.proofs.form.Restored.Laws as R′
 use Rattle.saved.proofs.Resumed as S
 use Rattle.saved.proofs.Resumed.Laws as S′
 use Rattle.parser.proofs.Structs.{Parser}
-use Rattle.parser.proofs.Walk.{PlainStruct}
-use Rattle.parser.proofs.Told.{Plain, of-enum}
-use Rattle.parser.proofs.InPlace.{Pair}
+use Rattle.by_hand.proofs.Structs.{PlainStruct}
+use Rattle.by_hand.proofs.Results.{Plain, of-enum}
+use Rattle.by_hand.proofs.Forms.{Pair}
 
 abbrev pub BySave : Plain
 BySave = of-enum A.the-type A′.the-laws A′.the-plain tt
@@ -26,10 +26,13 @@ After = record { type = S.the-type; laws = S′.the-laws; plain = S′.the-plain
 abbrev pub resumes : Pair After Parser ByRestore
 resumes = record {
   name = S.the-type .name;
-  parser = λ r. r .parser;
-  told = λ r. r .restored;
+  first = λ r. r .parser;
+  second = λ r. r .restored;
+  both = λ p r. record { parser = p; restored = r };
   mir-is = refl;
   val-is = λ r. refl;
-  parser-stands = λ r is. LL.owed S.the-type S′.the-laws r _ is .0;
-  told-stands = λ r is. LL.owed S.the-type S′.the-laws r _ is .1 .0;
+  val-both = λ p r. refl;
+  first-stands = λ r is. LL.owed S.the-type S′.the-laws r _ is .0;
+  second-stands = λ r is. LL.owed S.the-type S′.the-laws r _ is .1 .0;
+  both-stand = λ p r st is. LL.owes S.the-type S′.the-laws (record { parser = p; restored = r }) (st, (is, tt));
 }

@@ -12,7 +12,7 @@ use ghost.Atoms.{Atoms}
 use contract.Lifetimes.{Lfts}
 use contract.Monad.{Fun, fact}
 use denote.Ref.{now}
-use Rattle.base.proofs.Unique.{OneAnswer, same}
+use Rattle.base.proofs.Unique.{same}
 use Rattle.parser.specs.declared.CrsfParser.{CrsfParser}
 use Rattle.saved.specs.declared.form.Saved.{Saved}
 use Rattle.saved.specs.declared.form.Restored.{Restored}
@@ -20,8 +20,6 @@ use Rattle.saved.specs.Save.{Told, toldBySave, toldByRestore}
 use Rattle.resume.specs.Lent.{Saves, Resumes}
 use Rattle.resume.proofs.save as save
 use Rattle.resume.proofs.restore as restore
-use Rattle.resume.proofs.resumed.Reads as resumed
-use Rattle.resume.proofs.kept.Reads as kept
 
 module _ {M : Type 1} (𝓤 : URA M) (H : Heap 𝓤) (A : Atoms 𝓤) (mem : Memory → SProp 𝓤) (run : Routine → Fun 𝓤) where
   pub save-states : (κs : Lfts 2) (a : _) (r : Saved) (s : _)
@@ -41,10 +39,3 @@ module _ (p : CrsfParser) where
   pub lent-restore-one : (form : List ℕ) (q q′ : CrsfParser) (r r′ : Restored) → Resumes p form q r → Resumes p form q′ r′
       → _≡_ {A = Told × CrsfParser} (toldByRestore r, q) (toldByRestore r′, q′)
   lent-restore-one form q q′ r r′ = same
-
--- the functions with plain parameters
-pub resumed-one : OneAnswer {Seen = Told × CrsfParser} resumed.Post (λ κs r s. (toldByRestore (r .restored), r .parser))
-resumed-one κs a r r′ s s′ = same
-
-pub kept-one : OneAnswer {Seen = Told × List ℕ} kept.Post (λ κs r s. (toldBySave r, now (s .1 .0)))
-kept-one κs a r r′ s s′ = same

@@ -1,6 +1,5 @@
 // The save and the restore of a parser that the host keeps: it is lent, as to each call, and a restore changes it in place. Thin over the forms by value.
 use parser::CrsfParser;
-use saved::Resumed;
 use saved::form::Restored;
 use saved::form::Saved;
 ghost use Rattle.resume.specs.Lent.{Saves, Resumes};
@@ -19,23 +18,4 @@ pub fn restore(p: &mut CrsfParser, form: &[u8]) -> Restored
     let out = saved::restore(*p, form);
     *p = out.parser;
     out.restored
-}
-
-// A restore of a parser that is lent and handed back, for callers that the prover proves by itself.
-pub fn resumed(p: CrsfParser, form: &[u8]) -> Resumed
-    ensures { λ r. ⌜ Resumes p (now (form .entry)) (r .parser) (r .restored) ⌝ }
-{
-    let mut q = p;
-    let restored = restore(&mut q, form);
-    Resumed {
-        parser: q,
-        restored,
-    }
-}
-
-// A save of a parser that is lent, for such callers.
-pub fn kept(p: CrsfParser, out: &mut [u8]) -> Saved
-    ensures { λ r. ⌜ Saves p (now (out .entry)) r (now (out .exit)) ⌝ }
-{
-    save(&p, out)
 }

@@ -1,4 +1,4 @@
--- `resume::restore` meets its contract: it has the form that `InPlace.antt` walks, over the restore by value.
+-- `resume::restore` meets its contract: it has the form that `InPlace.antt` of crate `by_hand` walks, over the restore by value.
 -- Assumes nothing.
 use mathlib.Core.List.{List}
 use Prim.Native.Nat.{ℕ}
@@ -7,7 +7,8 @@ use Rattle.parser.specs.declared.CrsfParser.{CrsfParser}
 use Rattle.parser.proofs.Structs.{Parser}
 use Rattle.saved.specs.declared.Resumed.{Resumed}
 use Rattle.resume.specs.Lent.{Resumes}
-use Rattle.parser.proofs.InPlace.{G, in-place}
+use Rattle.by_hand.proofs.Forms as form
+use Rattle.by_hand.proofs.InPlace.{in-place}
 use Rattle.resume.proofs.Structs.{ByRestore, After, resumes}
 use Rattle.saved.proofs.restore.Symbol as by-value
 use Rattle.saved.proofs.restore.Symbol.{name as #by-value}
@@ -23,5 +24,5 @@ pub restore-spec : {M : Type 1} → stated.statement M
 unfolding code.routine
 restore-spec 𝓤 H 𝓜 𝓖 𝓡 =
     in-place After Parser ByRestore resumes ByValue Resumes (λ h s r e. e) 𝓤 H 𝓜 𝓖 𝓡 code.env #restore #by-value (code.unfolded 𝓤 H 𝓜 𝓡)
-    (cited 𝓤 H (G After Parser ByRestore resumes ByValue Resumes (λ h s r e. e) 𝓤 H (𝓖 .A)) 𝓜 𝓡 code.env #by-value by-value.routine code.calls-saved·restore
+    (cited 𝓤 H (form.ByValue After Parser ByValue 𝓤 H (𝓖 .A)) 𝓜 𝓡 code.env #by-value by-value.routine code.calls-saved·restore
     (by-value-thm.met 𝓤 H 𝓜 𝓖 𝓡))

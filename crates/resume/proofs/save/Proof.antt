@@ -38,7 +38,9 @@ use Rattle.parser.specs.declared.CrsfParser.{CrsfParser}
 use Rattle.saved.specs.declared.form.Saved.{Saved}
 use Rattle.resume.specs.Lent.{Saves}
 use Rattle.parser.proofs.Structs.{Parser}
-use Rattle.parser.proofs.Walk.{rowOf, valOf, Stands, typed, owns-plain, looks-plain, shuts-plain, returned, proved}
+use Rattle.by_hand.proofs.Structs.{rowOf, valOf, Stands, typed, owns-plain}
+use Rattle.by_hand.proofs.Borrows.{looks-plain, shuts-plain}
+use Rattle.by_hand.proofs.Calls.{returned, proved}
 use Rattle.resume.proofs.Structs.{BySave}
 use Rattle.saved.proofs.save as by-value
 use Rattle.saved.proofs.save.Symbol as by-value-def

@@ -39,7 +39,8 @@ use borrow.Rule.Array.AsSlice.{shr-arr-slice}
 use Rattle.parser.specs.declared.CrsfParser.{CrsfParser}
 use Rattle.parser.proofs.CrsfParser as P
 use Rattle.parser.proofs.Structs.{Parser}
-use Rattle.parser.proofs.Walk.{rowOf, proved}
+use Rattle.by_hand.proofs.Structs.{rowOf}
+use Rattle.by_hand.proofs.Calls.{proved}
 use Rattle.parser.proofs.CrsfParser.places.Key.{name as #places}
 use Rattle.parser.proofs.CrsfParser.places as places
 use Rattle.parser.proofs.CrsfParser.places.Statement as stated
