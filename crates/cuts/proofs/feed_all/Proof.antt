@@ -1,21 +1,18 @@
--- `lent_run::feed_all` meets its contract: each piece has a byte or more. Assumes nothing.
+-- `cuts::feed_all` meets its contract: each piece has a byte or more. Assumes nothing.
 use Prim.Native.Nat.{_-_, _≤_}
 use lib.ListN.{length}
 use borrow.Author.Needs.{needs}
-use Rattle.lent_run.proofs.feed_all.Statement.{statement}
-use Rattle.lent_run.proofs.feed_all.Tie as tie
+use Rattle.cuts.proofs.feed_all.Statement.{statement}
+use Rattle.cuts.proofs.feed_all.Tie as tie
 
 abbrev Inv-loop : tie.InvT-loop
-Inv-loop input size sum₀ at₀ sum at = (at ≤ length input) × (1 ≤ size)
+Inv-loop lent input size p₀ at₀ p at = (at ≤ length input) × (1 ≤ size)
 
 abbrev μ-loop : tie.MeasureT-loop
-μ-loop input size sum₀ at₀ sum at = length input - at
+μ-loop lent input size p₀ at₀ p at = length input - at
 
-slice-aggregate-restart : tie.Need-slice-aggregate-restart Inv-loop μ-loop
-slice-aggregate-restart c = search needs
-
-restart-requires : tie.Need-restart-requires Inv-loop μ-loop
-restart-requires c κs = search needs
+reset-requires : tie.Need-reset-requires Inv-loop μ-loop
+reset-requires c κs = search needs
 
 loop-holds : tie.Need-loop-holds Inv-loop μ-loop
 loop-holds c = search needs
@@ -56,8 +53,7 @@ feed-all-spec =
     (tie.spec
     Inv-loop
     μ-loop
-    slice-aggregate-restart
-    restart-requires
+    reset-requires
     loop-holds
     sub-least
     least-requires
