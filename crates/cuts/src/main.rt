@@ -54,10 +54,7 @@ fn lend(p: CrsfParser, input: &[u8]) -> Stepped
 {
     let mut q = p;
     let replied = q.next_raw_packet(input);
-    Stepped {
-        parser: q,
-        replied,
-    }
+    Stepped { parser: q, replied }
 }
 
 fn next(p: CrsfParser, lent: bool, input: &[u8]) -> Stepped

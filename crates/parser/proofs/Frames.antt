@@ -1,5 +1,5 @@
--- Where a call's answer is a frame, the reply says where it stands: those are the frame's bytes, and of the slice that RULES 6.5 says: the held
--- bytes' places where some were held at the start of the call, else the caller's piece. Assumes nothing.
+-- Where a call's answer is a frame, `view::frame` returns that frame's bytes, and of the slice that RULES 6.5 says: the held bytes' places where
+-- some were held at the start of the call, else the caller's piece. Assumes nothing.
 use mathlib.Core.Path.{_≡_, ap, _∙_}
 use mathlib.Core.Bool.{Bool, true}
 use mathlib.Core.List.{List}
@@ -9,19 +9,28 @@ use lib.ListN.{length}
 use Rattle.reading.specs.Answer.{Frame}
 use Rattle.reading.specs.Reading.{First, says, limit}
 use Rattle.reading.specs.Call.{call}
-use Rattle.stream.specs.Step.{frame, saidOf, meaningOf}
+use Rattle.stream.specs.Step.{frame, saidOf}
 use Rattle.stream.proofs.Drain.{said-is}
 use Rattle.parser.specs.declared.CrsfParser.{CrsfParser}
 use Rattle.parser.specs.declared.Stepped.{Stepped}
 use Rattle.parser.specs.Parser.{heldBy, isState, Nexts}
+use Rattle.view.specs.View.{frameOf, ofHeld}
+use Rattle.view.proofs.Pointed.{pointed}
 use Rattle.parser.proofs.Held.{moves-on}
 
 said-frame : (b : Bool) (c : List ℕ) {f : First} → f ≡ says (Frame c) → saidOf b f ≡ frame b c
 unfolding saidOf
 said-frame b c e = ap (saidOf b) e
 
--- (`pointed` of crate `view`: so `view::frame` returns these bytes, of that slice)
-pub means-frame : {p : CrsfParser} {input : List ℕ} {r : Stepped} {c : List ℕ} → isState p ≡ true → Nexts p input r
-    → call limit (heldBy p) input .answer ≡ says (Frame c)
-    → meaningOf (r .replied .reply) input (r .parser .buffer) ≡ frame (ltb 0 (length (heldBy p))) c
-means-frame {c = c} good n e = said-is (moves-on good n) ∙ said-frame _ c e
+module _ {p : CrsfParser} {input : List ℕ} {r : Stepped} {c : List ℕ} (good : isState p ≡ true) (n : Nexts p input r)
+    (e : call limit (heldBy p) input .answer ≡ says (Frame c)) where
+  both : (ofHeld (r .replied .reply) ≡ ltb 0 (length (heldBy p))) × (frameOf (r .replied .reply) input (r .parser .buffer) ≡ c)
+  both = pointed (r .replied .reply) input (r .parser .buffer) (said-is (moves-on good n) ∙ said-frame (ltb 0 (length (heldBy p))) c e)
+
+  -- these are the frame's bytes
+  pub frame-bytes : frameOf (r .replied .reply) input (r .parser .buffer) ≡ c
+  frame-bytes = both .1
+
+  -- and of the held bytes where something was held
+  pub frame-from : ofHeld (r .replied .reply) ≡ ltb 0 (length (heldBy p))
+  frame-from = both .0
