@@ -7,7 +7,7 @@
 -- The struct is copied into a local, which is lent to f for a lifetime that is made for the call, is back at the last value that f promises, and
 -- goes into the result. The slice is Copy: one copy goes to the callee, and one is kept for the exit.
 -- Assumes nothing.
-use mathlib.Core.Path.{_≡_, refl, sym, subst}
+use mathlib.Core.Path.{refl, subst}
 use Prim.Native.Nat.{ℕ}
 use mathlib.Core.List.{[], _∷_, List}
 use lib.Dec.{T as Holds}

@@ -6,7 +6,7 @@
 -- The borrow is opened, the struct is copied out of its cell whole, g is called on the copy and the slice, the new struct is stored over the old
 -- one, and the borrow is closed at it. The slice is Copy: one copy goes to the callee, and one is kept for the exit.
 -- Assumes nothing.
-use mathlib.Core.Path.{_≡_, refl, _∙_, subst}
+use mathlib.Core.Path.{refl, _∙_, subst}
 use Prim.Native.Nat.{ℕ}
 use mathlib.Core.List.{[], _∷_, List}
 use lib.Dec.{T as Holds}
