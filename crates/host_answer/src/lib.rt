@@ -1,0 +1,5 @@
+// What a host's entries answer: eight bytes in one number.
+pub mod answer;
+pub mod kept;
+pub mod reply;
+pub mod written;
