@@ -1,5 +1,6 @@
-// Runs every case of document 01's "Both sides of each edge", and that 0 reads as -10000 dm. What the library says is written line by line; the
-// stored output was made from document 01.
+// Both sides of each edge of the rules, and that 0 reads as -10000 dm. What the library gives is written line by line.
+use crate::show::shown;
+use crate::show::spelled;
 use altitude::Decimetres;
 use channels::RcChannelsPacked;
 use layout::Written;
@@ -8,27 +9,6 @@ use lines::line::list_held;
 use listing::list_in;
 use records::battery::Battery;
 use rpm::Rpm;
-
-fn wide(b: u8) -> u64 {
-    b as u64
-}
-
-fn spelled(bytes: &[u8]) {
-    let mut i = 0;
-    while i < bytes.len() {
-        io::print_hex(STDOUT_FILENO, wide(bytes[i]), 2);
-        io::write_all(STDOUT_FILENO, b" ");
-        i += 1;
-    }
-}
-
-// The first n of the bytes, if there are so many.
-fn shown(bytes: &[u8], n: usize) {
-    if n <= bytes.len() {
-        spelled(&bytes[0..n]);
-    }
-    io::write_all(STDOUT_FILENO, b"\n");
-}
 
 // The listing of a whole stream.
 fn stream(input: &[u8]) {
@@ -114,7 +94,7 @@ fn rpm(value: i32) {
     payload(written, &buffer);
 }
 
-fn main() {
+pub fn cases() {
     stream(&[0xC8, 0x02, 0x00, 0x00]);
     stream(&[0xC8, 0x02, 0x00, 0x01]);
     stream(&[0xC8, 0x01]);

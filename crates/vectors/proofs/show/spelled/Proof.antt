@@ -1,9 +1,9 @@
--- `edges_run::spelled` stays inside the frame and ends. Assumes nothing.
+-- `vectors::show::spelled` stays inside the bytes and ends. Assumes nothing.
 use Prim.Native.Nat.{_≤_, _-_}
 use lib.ListN.{length}
 use borrow.Author.Needs.{needs}
-use Rattle.edges_run.proofs.spelled.Statement.{statement}
-use Rattle.edges_run.proofs.spelled.Tie as tie
+use Rattle.vectors.proofs.show.spelled.Statement.{statement}
+use Rattle.vectors.proofs.show.spelled.Tie as tie
 
 abbrev Inv-loop : tie.InvT-loop
 Inv-loop bytes i₀ t3 i = i ≤ length bytes

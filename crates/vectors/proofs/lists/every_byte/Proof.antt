@@ -1,8 +1,8 @@
--- `packet_lists::main` ends: each turn leaves one byte less above the next. Assumes nothing.
+-- `vectors::lists::every_byte` ends: each turn leaves one byte less above the next. Assumes nothing.
 use Prim.Native.Nat.{_≤_, _-_}
 use borrow.Author.Needs.{needs}
-use Rattle.packet_lists.proofs.main.Statement.{statement}
-use Rattle.packet_lists.proofs.main.Tie as tie
+use Rattle.vectors.proofs.lists.every_byte.Statement.{statement}
+use Rattle.vectors.proofs.lists.every_byte.Tie as tie
 
 abbrev Inv-loop : tie.InvT-loop
 Inv-loop byte₀ byte = byte ≤ 255
@@ -31,8 +31,8 @@ returns c = search needs
 returns-2 : tie.Need-returns-2 Inv-loop μ-loop
 returns-2 c = search needs
 
-pub main-spec : {M : Type 1} → statement M
-main-spec =
+pub every-byte-spec : {M : Type 1} → statement M
+every-byte-spec =
     tie.close
     (tie.spec
     Inv-loop

@@ -1,4 +1,4 @@
-// Writes what the lists answer for every byte, a line for each: the byte, whether it is an address, and the header of the packet type.
+// What the lists answer for every byte, a line for each: the byte, whether it is an address, and the header of the packet type.
 use libc::STDOUT_FILENO;
 
 fn kind(byte: u8) {
@@ -25,7 +25,7 @@ fn line(byte: u8) {
     kind(byte);
 }
 
-fn main() {
+pub fn every_byte() {
     for byte in 0u8..=255 {
         line(byte);
     }
