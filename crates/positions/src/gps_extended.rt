@@ -1,5 +1,6 @@
 // GPS extended (0x06), 20 bytes.
-use layout::Written;
+use refusals::Refusal;
+use writing::Written;
 ghost use mathlib.Core.Path.{_≡_};
 ghost use mathlib.Core.List.{[], _∷_};
 ghost use Prim.Native.Nat.{_≤_};
@@ -7,8 +8,8 @@ ghost use lib.IntN.{pos};
 ghost use lib.ListN.{length, take, drop};
 ghost use Rattle.base.specs.Parts.{pasted};
 ghost use Rattle.layout.specs.Layout.{recordBytes};
-ghost use Rattle.layout.specs.Writing.{writeOf};
-ghost use Rattle.positions.specs.GpsExtended.{gpsExtendedLayout, gpsExtendedValues, gpsExtendedAnswer, gpsExtendedRead, gpsExtendedImage};
+ghost use Rattle.writing.specs.Writing.{writtenRow, writeOf};
+ghost use Rattle.positions.specs.GpsExtended.{gpsExtendedLayout, gpsExtendedValues, gpsExtendedDecoded, gpsExtendedRead, gpsExtendedImage};
 
 pub struct GpsExtended {
     // Quality of the fix.
@@ -34,8 +35,7 @@ pub struct GpsExtended {
 
 pub enum GpsExtendedRead {
     Record(GpsExtended),
-    // 4
-    InvalidPayloadLength,
+    Refused(Refusal),
 }
 
 impl GpsExtended {
@@ -76,10 +76,10 @@ impl GpsExtended {
     }
 
     pub fn from_bytes(payload: &[u8]) -> GpsExtendedRead
-        ensures { λ r. ⌜ gpsExtendedAnswer r ≡ gpsExtendedRead (now (payload .entry)) ⌝ }
+        ensures { λ r. ⌜ gpsExtendedDecoded r ≡ gpsExtendedRead (now (payload .entry)) ⌝ }
     {
         if payload.len() < Self::MIN_PAYLOAD_SIZE {
-            return GpsExtendedRead::InvalidPayloadLength;
+            return GpsExtendedRead::Refused(Refusal::InvalidPayloadLength);
         }
         let fix_type = numbers::get_u8(payload, 0);
         let n_speed = numbers::get_i16(payload, 1);
@@ -136,10 +136,10 @@ impl GpsExtended {
     }
 
     pub fn to_bytes(self, buffer: &mut [u8]) -> Written
-        ensures { λ r. ⌜ (r, now (buffer .exit)) ≡ writeOf (gpsExtendedImage self) (now (buffer .entry)) ⌝ }
+        ensures { λ r. ⌜ (writtenRow r, now (buffer .exit)) ≡ writeOf (gpsExtendedImage self) (now (buffer .entry)) ⌝ }
     {
         if buffer.len() < Self::MIN_PAYLOAD_SIZE {
-            return Written::BufferOverflow;
+            return Written::Refused(Refusal::BufferOverflow);
         }
         self.put_speeds(buffer);
         self.put_places(buffer);

@@ -1,5 +1,6 @@
 // Battery (0x08), 8 bytes, or 9 with an id.
-use layout::Written;
+use refusals::Refusal;
+use writing::Written;
 ghost use mathlib.Core.Path.{_≡_};
 ghost use mathlib.Core.List.{[], _∷_};
 ghost use Prim.Native.Nat.{_≤_};
@@ -7,8 +8,8 @@ ghost use lib.IntN.{pos};
 ghost use lib.ListN.{length, take};
 ghost use Rattle.base.specs.Parts.{pasted};
 ghost use Rattle.layout.specs.Layout.{recordBytes};
-ghost use Rattle.layout.specs.Writing.{writeOf};
-ghost use Rattle.records.specs.Battery.{batteryLayout, batteryValues, batteryAnswer, batteryRead, batteryImage};
+ghost use Rattle.writing.specs.Writing.{writtenRow, writeOf};
+ghost use Rattle.records.specs.Battery.{batteryLayout, batteryValues, batteryDecoded, batteryRead, batteryImage};
 
 pub struct Battery {
     // 0.1 V and 0.1 A.
@@ -24,8 +25,7 @@ pub struct Battery {
 
 pub enum BatteryRead {
     Record(Battery),
-    // 4
-    InvalidPayloadLength,
+    Refused(Refusal),
 }
 
 impl Battery {
@@ -47,10 +47,10 @@ impl Battery {
     }
 
     pub fn from_bytes(payload: &[u8]) -> BatteryRead
-        ensures { λ r. ⌜ batteryAnswer r ≡ batteryRead (now (payload .entry)) ⌝ }
+        ensures { λ r. ⌜ batteryDecoded r ≡ batteryRead (now (payload .entry)) ⌝ }
     {
         if payload.len() < Self::MIN_PAYLOAD_SIZE {
-            return BatteryRead::InvalidPayloadLength;
+            return BatteryRead::Refused(Refusal::InvalidPayloadLength);
         }
         let voltage = numbers::get_i16(payload, 0);
         let current = numbers::get_i16(payload, 2);
@@ -87,18 +87,18 @@ impl Battery {
     }
 
     pub fn to_bytes(self, buffer: &mut [u8]) -> Written
-        ensures { λ r. ⌜ (r, now (buffer .exit)) ≡ writeOf (batteryImage self) (now (buffer .entry)) ⌝ }
+        ensures { λ r. ⌜ (writtenRow r, now (buffer .exit)) ≡ writeOf (batteryImage self) (now (buffer .entry)) ⌝ }
     {
         let id = self.id;
         if id == 0 {
             if buffer.len() < 8 {
-                return Written::BufferOverflow;
+                return Written::Refused(Refusal::BufferOverflow);
             }
             self.put_short(buffer);
             Written::Wrote(8)
         } else {
             if buffer.len() < 9 {
-                return Written::BufferOverflow;
+                return Written::Refused(Refusal::BufferOverflow);
             }
             self.put_short(buffer);
             numbers::put_u8(buffer, 8, id);

@@ -1,5 +1,6 @@
 // Link statistics (0x14), 10 bytes. Uplink is from the ground to the aircraft.
-use layout::Written;
+use refusals::Refusal;
+use writing::Written;
 ghost use mathlib.Core.Path.{_≡_};
 ghost use mathlib.Core.List.{[], _∷_};
 ghost use Prim.Native.Nat.{_≤_};
@@ -7,8 +8,8 @@ ghost use lib.IntN.{pos};
 ghost use lib.ListN.{length, take, drop};
 ghost use Rattle.base.specs.Parts.{pasted};
 ghost use Rattle.layout.specs.Layout.{recordBytes};
-ghost use Rattle.layout.specs.Writing.{writeOf};
-ghost use Rattle.records.specs.LinkStatistics.{linkStatisticsLayout, linkStatisticsValues, linkStatisticsAnswer, linkStatisticsRead, linkStatisticsImage};
+ghost use Rattle.writing.specs.Writing.{writtenRow, writeOf};
+ghost use Rattle.records.specs.LinkStatistics.{linkStatisticsLayout, linkStatisticsValues, linkStatisticsDecoded, linkStatisticsRead, linkStatisticsImage};
 
 pub struct LinkStatistics {
     // dBm times -1.
@@ -30,8 +31,7 @@ pub struct LinkStatistics {
 
 pub enum LinkStatisticsRead {
     Record(LinkStatistics),
-    // 4
-    InvalidPayloadLength,
+    Refused(Refusal),
 }
 
 impl LinkStatistics {
@@ -68,10 +68,10 @@ impl LinkStatistics {
     }
 
     pub fn from_bytes(payload: &[u8]) -> LinkStatisticsRead
-        ensures { λ r. ⌜ linkStatisticsAnswer r ≡ linkStatisticsRead (now (payload .entry)) ⌝ }
+        ensures { λ r. ⌜ linkStatisticsDecoded r ≡ linkStatisticsRead (now (payload .entry)) ⌝ }
     {
         if payload.len() < Self::MIN_PAYLOAD_SIZE {
-            return LinkStatisticsRead::InvalidPayloadLength;
+            return LinkStatisticsRead::Refused(Refusal::InvalidPayloadLength);
         }
         let uplink_rssi_1 = numbers::get_u8(payload, 0);
         let uplink_rssi_2 = numbers::get_u8(payload, 1);
@@ -122,10 +122,10 @@ impl LinkStatistics {
     }
 
     pub fn to_bytes(self, buffer: &mut [u8]) -> Written
-        ensures { λ r. ⌜ (r, now (buffer .exit)) ≡ writeOf (linkStatisticsImage self) (now (buffer .entry)) ⌝ }
+        ensures { λ r. ⌜ (writtenRow r, now (buffer .exit)) ≡ writeOf (linkStatisticsImage self) (now (buffer .entry)) ⌝ }
     {
         if buffer.len() < Self::MIN_PAYLOAD_SIZE {
-            return Written::BufferOverflow;
+            return Written::Refused(Refusal::BufferOverflow);
         }
         self.put_first_five(buffer);
         self.put_other_five(buffer);

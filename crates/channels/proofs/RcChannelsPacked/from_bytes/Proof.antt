@@ -10,6 +10,7 @@ use lib.Seq.{length-take-le, take-all}
 use Rattle.base.specs.Parts.{pasted}
 use Rattle.base.proofs.Parts.{pasted-front}
 use borrow.Author.Tests.{lt-ltb, le-ltb}
+use Rattle.layout.specs.Decoded.{readRow}
 use Rattle.layout.specs.declared.ReadAnswer.the-variants.{Record}
 use Rattle.channels.specs.Digits.{number}
 use Rattle.channels.specs.Channels.{channelsOf, channelsRead}
@@ -71,7 +72,7 @@ returns-2 c =
     let long : length s ≡ 16 = length-digits 11 16 (number 8 (take 22 payload)) in
     let all : at-loop .loop .i ≡ 16 = omega arith in
     rw (le-ltb (length payload) 22 (omega arith))
-    (ap (λ (l : List ℕ). record { answer = Record; channels = record { 0 = l } })
+    (ap (λ (l : List ℕ). (readRow Record, record { 0 = l }))
     (at-loop .loop .inv .1 ∙ ap (filling s (replicate 16 0) 0) all ∙ ap (pasted (replicate 16 0) 0) (take-all 16 s (omega arith))
     ∙ pasted-front (replicate 16 0) s ∙ ap (λ (n : ℕ). s ++ drop n (replicate 16 0)) long ∙ append-nil s))
 

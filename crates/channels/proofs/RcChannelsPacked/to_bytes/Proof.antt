@@ -7,8 +7,9 @@ use native.Mathlib.Omega.{arith}
 use borrow.Author.Needs.{needs}
 use lib.ListN.{length}
 use Rattle.base.specs.Parts.{pasted}
-use Rattle.layout.specs.declared.Written.the-variants.{Wrote}
-use Rattle.layout.proofs.Writing.{writes, overflows, refuses}
+use Rattle.writing.specs.Writing.{writtenRow}
+use Rattle.writing.specs.declared.Written.the-variants.{Wrote}
+use Rattle.writing.proofs.Writing.{writes, overflows, refuses}
 use Rattle.channels.specs.Digits.{number, Below}
 use Rattle.channels.specs.Channels.{channelBytes, firstAbove}
 use Rattle.channels.proofs.Digits.{length-digits}
@@ -78,7 +79,7 @@ returns-3 c =
     let stored : second .put-group2 .last .0 ≡ pasted d 0 s =
     rw (second .put-group2 .ensures, first .put-group .ensures) (two-halves s d 11 (wrote right) (omega arith)) in
     rw (image-bytes (start .self) (good right))
-    (ap (λ (l : List ℕ). (Wrote 22, l)) stored ∙ writes s d 22 (wrote right) (omega arith))
+    (ap (λ (l : List ℕ). (writtenRow (Wrote 22), l)) stored ∙ writes s d 22 (wrote right) (omega arith))
 
 pub to-bytes-spec : {M : Type 1} → statement M
 to-bytes-spec =

@@ -2,7 +2,7 @@
 -- Assumes nothing.
 use lib.Dec.{lit≤}
 use Rattle.positions.specs.Gps.{gpsLayout, gpsValues}
-use Rattle.fields.proofs.Writers.{Typed, putFrom, no-room, wrote-all}
+use Rattle.layout.proofs.Writers.{Typed, putFrom, no-room, wrote-all}
 use borrow.Author.Needs.{needs}
 use Rattle.positions.proofs.gps.Gps.to_bytes.Statement.{statement}
 use Rattle.positions.proofs.gps.Gps.to_bytes.Tie as tie

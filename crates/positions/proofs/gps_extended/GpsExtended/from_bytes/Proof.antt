@@ -1,14 +1,14 @@
 -- `positions::gps_extended::GpsExtended::from_bytes` meets its contract: each field is read at its place of the layout.
 -- Assumes nothing.
-use Rattle.positions.specs.GpsExtended.{gpsExtendedLayout, gpsExtendedValues, gpsExtendedAnswer}
-use Rattle.fields.proofs.Readers.{gotFrom, refused, all-got}
+use Rattle.positions.specs.GpsExtended.{gpsExtendedLayout, gpsExtendedValues, gpsExtendedDecoded}
+use Rattle.layout.proofs.Readers.{gotFrom, too-short, all-got}
 use borrow.Author.Needs.{needs}
 use Rattle.positions.proofs.gps_extended.GpsExtended.from_bytes.Statement.{statement}
 use Rattle.positions.proofs.gps_extended.GpsExtended.from_bytes.Tie as tie
 
 returns : tie.Need-returns
-unfolding gpsExtendedAnswer
-returns c = refused gpsExtendedLayout (c .before .before .args .payload .now) (c .if1 .taken)
+unfolding gpsExtendedDecoded
+returns c = too-short gpsExtendedLayout (c .before .before .args .payload .now) (c .if1 .taken)
 
 get-u8-requires : tie.Need-get-u8-requires
 get-u8-requires c κs = search needs
@@ -47,7 +47,7 @@ get-u8-requires-4 : tie.Need-get-u8-requires-4
 get-u8-requires-4 c κs = search needs
 
 returns-2 : tie.Need-returns-2
-unfolding gpsExtendedAnswer gpsExtendedValues gotFrom
+unfolding gpsExtendedDecoded gpsExtendedValues gotFrom
 returns-2 c =
     let h-dop = c .before in
     let reserved = h-dop .before in

@@ -3,7 +3,7 @@
 use native.Mathlib.Omega.{arith}
 use lib.ListN.{drop}
 use Rattle.positions.specs.GpsExtended.{gpsExtendedLayout, gpsExtendedValues}
-use Rattle.fields.proofs.Writers.{Typed, putFrom, put-fields}
+use Rattle.layout.proofs.Writers.{Typed, putFrom, put-fields}
 use borrow.Author.Needs.{needs}
 use Rattle.positions.proofs.gps_extended.GpsExtended.put_places.Statement.{statement}
 use Rattle.positions.proofs.gps_extended.GpsExtended.put_places.Tie as tie

@@ -3,7 +3,7 @@
 use native.Mathlib.Omega.{arith}
 use lib.ListN.{take}
 use Rattle.records.specs.Battery.{batteryLayout, batteryValues}
-use Rattle.fields.proofs.Writers.{Typed, putFrom, put-fields}
+use Rattle.layout.proofs.Writers.{Typed, putFrom, put-fields}
 use borrow.Author.Needs.{needs}
 use Rattle.records.proofs.battery.Battery.put_short.Statement.{statement}
 use Rattle.records.proofs.battery.Battery.put_short.Tie as tie

@@ -6,7 +6,7 @@ use borrow.Author.Tests.{eq-eqb, ne-eqb}
 use lib.Dec.{lit≤}
 use lib.ListN.{take, drop}
 use Rattle.records.specs.Battery.{batteryLayout, batteryValues}
-use Rattle.fields.proofs.Writers.{putFrom, put-fields, no-room, wrote, wrote-in-two}
+use Rattle.layout.proofs.Writers.{putFrom, put-fields, no-room, wrote, wrote-in-two}
 use borrow.Author.Needs.{needs}
 use Rattle.records.proofs.battery.Battery.to_bytes.Statement.{statement}
 use Rattle.records.proofs.battery.Battery.to_bytes.Tie as tie

@@ -1,14 +1,14 @@
 -- `records::link_statistics::LinkStatistics::from_bytes` meets its contract: each field is read at its place of the layout.
 -- Assumes nothing.
-use Rattle.records.specs.LinkStatistics.{linkStatisticsLayout, linkStatisticsValues, linkStatisticsAnswer}
-use Rattle.fields.proofs.Readers.{gotFrom, refused, all-got}
+use Rattle.records.specs.LinkStatistics.{linkStatisticsLayout, linkStatisticsValues, linkStatisticsDecoded}
+use Rattle.layout.proofs.Readers.{gotFrom, too-short, all-got}
 use borrow.Author.Needs.{needs}
 use Rattle.records.proofs.link_statistics.LinkStatistics.from_bytes.Statement.{statement}
 use Rattle.records.proofs.link_statistics.LinkStatistics.from_bytes.Tie as tie
 
 returns : tie.Need-returns
-unfolding linkStatisticsAnswer
-returns c = refused linkStatisticsLayout (c .before .before .args .payload .now) (c .if1 .taken)
+unfolding linkStatisticsDecoded
+returns c = too-short linkStatisticsLayout (c .before .before .args .payload .now) (c .if1 .taken)
 
 get-u8-requires : tie.Need-get-u8-requires
 get-u8-requires c κs = search needs
@@ -41,7 +41,7 @@ get-i8-requires-2 : tie.Need-get-i8-requires-2
 get-i8-requires-2 c κs = search needs
 
 returns-2 : tie.Need-returns-2
-unfolding linkStatisticsAnswer linkStatisticsValues gotFrom
+unfolding linkStatisticsDecoded linkStatisticsValues gotFrom
 returns-2 c =
     let downlink-link-quality = c .before in
     let downlink-rssi = downlink-link-quality .before in

@@ -3,7 +3,7 @@
 use native.Mathlib.Omega.{arith}
 use lib.ListN.{drop}
 use Rattle.records.specs.LinkStatistics.{linkStatisticsLayout, linkStatisticsValues}
-use Rattle.fields.proofs.Writers.{Typed, putFrom, put-fields}
+use Rattle.layout.proofs.Writers.{Typed, putFrom, put-fields}
 use borrow.Author.Needs.{needs}
 use Rattle.records.proofs.link_statistics.LinkStatistics.put_other_five.Statement.{statement}
 use Rattle.records.proofs.link_statistics.LinkStatistics.put_other_five.Tie as tie

@@ -18,9 +18,9 @@ use Rattle.base.proofs.Every.{both, both-left, both-right}
 use Rattle.numbers.specs.BigEndian.{beOf}
 use Rattle.numbers.specs.TwosComplement.{signedOf}
 use Rattle.numbers.proofs.TwosComplement.{signed-part-range}
 use Rattle.layout.specs.Layout.{Field, sizeOf, readAsSigned, readFrom}
-use Rattle.fields.specs.Answer.{Answer, read, tooShort, readOf}
-use Rattle.fields.proofs.Carried.{machine, carry}
+use Rattle.layout.specs.Decoded.{Decoded, decoded, tooShort, readOf}
+use Rattle.layout.proofs.Carried.{machine, carry}
 
 -- the machine has room for a field's numbers
 abbrev roomBy : Bool → ℕ → Bool
@@ -59,12 +59,12 @@ module _ (bs : List ℕ) (b : Bytes bs) where
       (got-each fs (at + f .width) (both-right (roomBy (f .sign) (f .width)) (room fs) t))
 
 module _ (fs : List Field) (payload : List ℕ) where
-  pub refused : length payload < sizeOf fs → tooShort ≡ readOf fs payload
-  refused h = simp (lt-leb _ _ h)
+  pub too-short : length payload < sizeOf fs → tooShort ≡ readOf fs payload
+  too-short h = simp (lt-leb _ _ h)
 
   module _ (t : T (room fs)) (known : (i : ℕ) → Fits w8 (getD payload i 0)) where
     pub got : gotFrom fs 0 payload ≡ readFrom fs 0 payload
     got = got-each payload (λ i. known i .fits) fs 0 t
 
-    pub all-got : {a : Answer} → sizeOf fs ≤ length payload → a ≡ read (gotFrom fs 0 payload) → a ≡ readOf fs payload
-    all-got h e = simp (le-leb _ _ h) (e ∙ ap read got)
+    pub all-got : {a : Decoded} → sizeOf fs ≤ length payload → a ≡ decoded (gotFrom fs 0 payload) → a ≡ readOf fs payload
+    all-got h e = simp (le-leb _ _ h) (e ∙ ap decoded got)

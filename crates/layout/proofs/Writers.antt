@@ -16,12 +16,13 @@ use Rattle.base.proofs.Parts.{length-pasted, pasted-nil, pasted-append, placed-
 use Rattle.numbers.specs.BigEndian.{bytesOf}
 use Rattle.numbers.specs.TwosComplement.{twosOf}
 use Rattle.numbers.proofs.TwosComplement.{bytesOf-natural}
 use Rattle.layout.specs.Layout.{Field, sizeOf, bytesFor, recordBytes}
-use Rattle.layout.specs.Writing.{bytes, writeOf}
-use Rattle.layout.specs.declared.Written.the-variants.{Wrote, BufferOverflow}
+use Rattle.refusals.specs.declared.Refusal.the-variants.{BufferOverflow}
+use Rattle.writing.specs.Writing.{bytes, writtenRow, writeOf}
+use Rattle.writing.specs.declared.Written.the-variants.{Wrote, Refused}
 use Rattle.layout.proofs.Fields.{length-bytesFor, length-recordBytes}
-use Rattle.layout.proofs.Writing.{writes, overflows}
-use Rattle.fields.proofs.Carried.{machine, carry}
+use Rattle.writing.proofs.Writing.{writes, overflows}
+use Rattle.layout.proofs.Carried.{machine, carry}
 
 -- what the types of a struct's fields say of its numbers
 abbrev TypedBy : Bool → ℕ → ℤ → Type 0
@@ -87,18 +88,18 @@ module _ (fs : List Field) (vs : List ℤ) (full : length fs ≤ length vs) (buf
   long : length (recordBytes fs vs) ≡ sizeOf fs
   long = length-recordBytes fs vs full
 
-  pub no-room : length buffer < sizeOf fs → (BufferOverflow, buffer) ≡ writeOf (bytes (recordBytes fs vs)) buffer
+  pub no-room : length buffer < sizeOf fs → (writtenRow (Refused BufferOverflow), buffer) ≡ writeOf (bytes (recordBytes fs vs)) buffer
   no-room = overflows (recordBytes fs vs) buffer (sizeOf fs) long
 
   pub wrote :
       {after : List ℕ} → sizeOf fs ≤ length buffer → after ≡ pasted buffer 0 (recordBytes fs vs)
-      → (Wrote (sizeOf fs), after) ≡ writeOf (bytes (recordBytes fs vs)) buffer
-  wrote room e = ap (λ (l : List ℕ). (Wrote (sizeOf fs), l)) e ∙ writes (recordBytes fs vs) buffer (sizeOf fs) long room
+      → (writtenRow (Wrote (sizeOf fs)), after) ≡ writeOf (bytes (recordBytes fs vs)) buffer
+  wrote room e = ap (λ (l : List ℕ). (writtenRow (Wrote (sizeOf fs)), l)) e ∙ writes (recordBytes fs vs) buffer (sizeOf fs) long room
 
   -- by one call for each field ..
   pub wrote-all :
       {after : List ℕ} → sizeOf fs ≤ length buffer → Typed fs vs → after ≡ putFrom fs vs 0 buffer
-      → (Wrote (sizeOf fs), after) ≡ writeOf (bytes (recordBytes fs vs)) buffer
+      → (writtenRow (Wrote (sizeOf fs)), after) ≡ writeOf (bytes (recordBytes fs vs)) buffer
   wrote-all room typed e = wrote room (put-fields fs vs 0 buffer (omega arith) typed e)
 
   -- .. or the first n fields, and then the others
@@ -106,7 +107,7 @@ module _ (fs : List Field) (vs : List ℤ) (full : length fs ≤ length vs) (buf
       (n : ℕ) {half after : List ℕ} → sizeOf fs ≤ length buffer
       → half ≡ pasted buffer 0 (recordBytes (take n fs) (take n vs))
       → after ≡ pasted half (sizeOf (take n fs)) (recordBytes (drop n fs) (drop n vs))
-      → (Wrote (sizeOf fs), after) ≡ writeOf (bytes (recordBytes fs vs)) buffer
+      → (writtenRow (Wrote (sizeOf fs)), after) ≡ writeOf (bytes (recordBytes fs vs)) buffer
   wrote-in-two n {half} {after} room first second =
       let xs : List ℕ = recordBytes (take n fs) (take n vs) in
       let ys : List ℕ = recordBytes (drop n fs) (drop n vs) in

@@ -7,7 +7,7 @@ use mir.Syntax.{Width, w8, w16, w32}
 use mir.Val.{toZ, ofZ}
 use Rattle.base.specs.Choice.{if_then_else_}
 
--- the machine's integers that a field of so many bytes is read into and written from
+-- the machine's integers that a field of that many bytes is read into and written from
 abbrev pub machine : ℕ → Width
 machine w = if eqb w 1 then w8 else if eqb w 2 then w16 else w32
 
