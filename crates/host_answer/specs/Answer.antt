@@ -1,7 +1,12 @@
--- What every entry answers: eight bytes, which C declares as a struct of eight and a register carries as one number, lowest byte first.
+-- What every entry answers (RULES 14): eight bytes, which C declares as a struct of eight and a register carries as one number, lowest byte first.
 -- Assumes nothing.
 use Prim.Native.Nat.{ℕ, _+_, _*_, _%_}
 use mathlib.Core.List.{List, [], _∷_}
+use lib.Dec.{eqb}
+use lib.ListN.{getD}
+use Rattle.base.specs.Choice.{if_then_else_}
+use Rattle.refusals.specs.Row.{rowOf}
+use Rattle.refusals.specs.declared.Refusal.{Refusal}
 use Rattle.host_answer.specs.declared.answer.HostAnswer.{HostAnswer}
 
 -- in the struct's order
@@ -27,9 +32,21 @@ answerPlace t s p l = record { number = 0; taken = t; in_state = s; at = p; len 
 abbrev pub answerCount : ℕ → HostAnswer
 answerCount n = answerPlace 0 0 0 n
 
+-- what was taken, and a refusal's row: its number, and the low byte of each value that it carries
+abbrev pub answerCarried : ℕ → List ℕ → HostAnswer
+answerCarried t row = answerNumber (getD row 0 0) t (getD row 1 0 % 256) (getD row 2 0 % 256)
+
 -- only a refusal
-abbrev pub answerRefusal : ℕ → HostAnswer
-answerRefusal k = answerNumber k 0 0 0
+abbrev pub answerRefusal : Refusal → HostAnswer
+answerRefusal r = answerCarried 0 (rowOf r)
+
+-- any row: 0 and a count, or a refusal's
+unfoldable pub answerRow : List ℕ → HostAnswer
+answerRow row = if eqb (getD row 0 0) 0 then answerCount (getD row 1 0) else answerCarried 0 row
+
+-- .. and what is left of the bytes that were lent to be written
+abbrev pub answers : {A : Type 0} → List ℕ × A → ℕ × A
+answers x = (packed (answerRow (x .0)), x .1)
 
 -- with the low byte of each count; the other fields are bytes by their types
 abbrev pub inBytes : HostAnswer → HostAnswer

@@ -1,5 +1,2 @@
 pub mod Answer
 pub mod Reply
-pub mod State
-pub mod Written
-pub mod Seen

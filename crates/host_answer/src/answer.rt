@@ -1,12 +1,15 @@
 // What every entry for a host answers: eight bytes, and these as one number.
 use base::narrow;
+use refusals::Refusal;
+use refusals::row_of;
 ghost use mathlib.Core.Path.{_≡_};
 ghost use Prim.Native.Nat.{_+_, _*_, _^_, _%_, _<_};
-ghost use Rattle.host_answer.specs.Answer.{packed, answerNumber, answerPlace, answerCount, answerRefusal};
+ghost use Rattle.refusals.specs.Row.{rowOf};
+ghost use Rattle.host_answer.specs.Answer.{packed, answerNumber, answerPlace, answerCount, answerCarried, answerRefusal};
 
 // What every entry answers. The eighth byte is 0. A field that an answer does not speak of is 0.
 pub struct HostAnswer {
-    // 0, or document 01's number of a refusal; 255 where a call asks for more
+    // 0, or a refusal's number; 255 where a call asks for more
     pub number: u8,
     // how many bytes of the input were taken
     pub taken: u8,
@@ -16,7 +19,7 @@ pub struct HostAnswer {
     pub at: u8,
     // how many bytes a frame has, or were written, or are held; or how many numbers were read
     pub len: u8,
-    // what a refusal carries; the source id of an RPM record that was read
+    // what a refusal carries, each value by its low byte; the source id of an RPM record that was read
     pub first: u8,
     pub second: u8,
 }
@@ -81,9 +84,17 @@ pub fn count(n: usize) -> u64
     pack(placed(0, 0, 0, narrow(n)))
 }
 
-// Only a refusal.
-pub fn refuse(number: u8) -> u64
-    ensures { λ r. ⌜ r ≡ packed (answerRefusal number) ⌝ }
+// A refusal, by its row: this is the one place where an answer gets a refusal's number and values.
+pub(crate) fn carried(refusal: Refusal, taken: u8) -> HostAnswer
+    ensures { λ r. ⌜ r ≡ answerCarried taken (rowOf refusal) ⌝ }
 {
-    pack(said(number, 0, 0, 0))
+    let row = row_of(refusal);
+    said(row.number, taken, narrow(row.first), narrow(row.second))
+}
+
+// Only a refusal.
+pub fn refuse(refusal: Refusal) -> u64
+    ensures { λ r. ⌜ r ≡ packed (answerRefusal refusal) ⌝ }
+{
+    pack(carried(refusal, 0))
 }

@@ -1,5 +1,4 @@
 // What a host's entries answer: eight bytes in one number.
 pub mod answer;
-pub mod kept;
 pub mod reply;
 pub mod written;

@@ -1,29 +1,30 @@
-// What a call of the stream says.
-use crate::answer::HostAnswer;
+// What a call of the stream says, in eight bytes. These are packed in each arm: packed behind the match, a call of few bytes takes longer.
+use crate::answer::carried;
+use crate::answer::pack;
 use crate::answer::placed;
 use crate::answer::said;
 use base::narrow;
-use stream::step::Answer;
-use stream::step::Answered;
+use stream::step::Place;
+use stream::step::Replied;
+use stream::step::Reply;
 ghost use mathlib.Core.Path.{_≡_};
-ghost use Rattle.host_answer.specs.Answer.{inBytes};
+ghost use Rattle.host_answer.specs.Answer.{packed, inBytes};
 ghost use Rattle.host_answer.specs.Reply.{answerCall};
 
-pub fn answer_call(answered: Answered) -> HostAnswer
-    ensures { λ r. ⌜ r ≡ inBytes (answerCall answered) ⌝ }
+// The number of an answer that asks for more.
+const MORE: u8 = 255;
+
+pub fn answer_call(replied: Replied) -> u64
+    ensures { λ r. ⌜ r ≡ packed (inBytes (answerCall replied)) ⌝ }
 {
-    let answer = answered.answer;
-    let taken = narrow(answered.taken);
-    match answer {
-        Answer::Stop => said(255, taken, 0, 0),
-        Answer::InPiece(len) => placed(taken, 0, 0, narrow(len)),
-        Answer::InHeld { at, len } => placed(taken, 1, narrow(at % 256 + 2), narrow(len)),
-        Answer::InvalidSync(byte) => said(1, taken, byte, 0),
-        Answer::InvalidPacketLength(length) => said(2, taken, length, 0),
-        Answer::InvalidCrc {
-            calculated,
-            carried,
-        } => said(3, taken, calculated, carried),
-        Answer::BadState => said(8, taken, 0, 0),
+    let reply = replied.reply;
+    let taken = narrow(replied.taken);
+    match reply {
+        Reply::More => pack(said(MORE, taken, 0, 0)),
+        Reply::Frame(place) => match place {
+            Place::InPiece(len) => pack(placed(taken, 0, 0, narrow(len))),
+            Place::InHeld { at, len } => pack(placed(taken, 1, narrow(at % 256 + 2), narrow(len))),
+        },
+        Reply::Refused(refusal) => pack(carried(refusal, taken)),
     }
 }

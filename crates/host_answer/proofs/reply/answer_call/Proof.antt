@@ -1,100 +1,129 @@
 -- `host_answer::reply::answer_call` meets its contract. Assumes nothing.
-use mathlib.Core.Path.{_≡_}
+use mathlib.Core.Path.{_≡_, ap, _∙_}
 use Prim.Native.Nat.{_+_, _%_}
 use native.Mathlib.Omega.{arith}
+use Rattle.host_answer.specs.Answer.{packed}
 use Rattle.host_answer.specs.Reply.{answerReply}
 use borrow.Author.Needs.{needs}
 use Rattle.host_answer.proofs.reply.answer_call.Statement.{statement}
 use Rattle.host_answer.proofs.reply.answer_call.Tie as tie
+use Rattle.host_answer.proofs.reply.answer_call.Reads as reads
+use Rattle.host_answer.proofs.reply.answer_call.Lts as lts
+use Rattle.base.proofs.narrow.Reads as narrow-reads
+use Rattle.host_answer.proofs.answer.carried.Reads as carried-reads
+use Rattle.host_answer.proofs.answer.pack.Reads as pack-reads
+use Rattle.host_answer.proofs.answer.placed.Reads as placed-reads
+use Rattle.host_answer.proofs.answer.said.Reads as said-reads
 
+-- src/reply.rt:21:9
 narrow-requires : tie.Need-narrow-requires
 narrow-requires c κs = search needs
 
+-- src/reply.rt:23:29
 enum-told : tie.Need-enum-told
 enum-told c = search needs
 
+-- src/reply.rt:23:29
 said-requires : tie.Need-said-requires
 said-requires c κs = search needs
 
-enum-known-answer : tie.Need-enum-known-answer
-enum-known-answer c = search needs
+-- src/reply.rt:23:24
+pack-requires : tie.Need-pack-requires
+pack-requires c κs = search needs
 
+-- src/reply.rt:24:22
+enum-known-reply : tie.Need-enum-known-reply
+enum-known-reply c = search needs
+
+-- src/reply.rt:25:28
+enum-known-place : tie.Need-enum-known-place
+enum-known-place c = search needs
+
+-- src/reply.rt:25:61
 narrow-requires-2 : tie.Need-narrow-requires-2
 narrow-requires-2 c κs = search needs
 
+-- src/reply.rt:25:41
 placed-requires : tie.Need-placed-requires
 placed-requires c κs = search needs
 
-enum-known-answer-2 : tie.Need-enum-known-answer-2
-enum-known-answer-2 c = search needs
+-- src/reply.rt:25:36
+pack-requires-2 : tie.Need-pack-requires-2
+pack-requires-2 c κs = search needs
 
+-- src/reply.rt:26:29
+enum-known-place-2 : tie.Need-enum-known-place-2
+enum-known-place-2 c = search needs
+
+-- src/reply.rt:26:71
 add-narrow : tie.Need-add-narrow
 add-narrow c = search needs
 
+-- src/reply.rt:26:64
 narrow-requires-3 : tie.Need-narrow-requires-3
 narrow-requires-3 c κs = search needs
 
+-- src/reply.rt:26:86
 narrow-requires-4 : tie.Need-narrow-requires-4
 narrow-requires-4 c κs = search needs
 
+-- src/reply.rt:26:47
 placed-requires-2 : tie.Need-placed-requires-2
 placed-requires-2 c κs = search needs
 
-enum-known-answer-3 : tie.Need-enum-known-answer-3
-enum-known-answer-3 c = search needs
+-- src/reply.rt:26:42
+pack-requires-3 : tie.Need-pack-requires-3
+pack-requires-3 c κs = search needs
 
-said-requires-2 : tie.Need-said-requires-2
-said-requires-2 c κs = search needs
+-- src/reply.rt:28:24
+enum-known-reply-2 : tie.Need-enum-known-reply-2
+enum-known-reply-2 c = search needs
 
-enum-known-answer-4 : tie.Need-enum-known-answer-4
-enum-known-answer-4 c = search needs
+-- src/reply.rt:28:41
+carried-requires : tie.Need-carried-requires
+carried-requires c κs = search needs
 
-said-requires-3 : tie.Need-said-requires-3
-said-requires-3 c κs = search needs
+-- src/reply.rt:28:36
+pack-requires-4 : tie.Need-pack-requires-4
+pack-requires-4 c κs = search needs
 
-enum-known-answer-5 : tie.Need-enum-known-answer-5
-enum-known-answer-5 c = search needs
-
-said-requires-4 : tie.Need-said-requires-4
-said-requires-4 c κs = search needs
-
-enum-told-2 : tie.Need-enum-told-2
-enum-told-2 c = search needs
-
-said-requires-5 : tie.Need-said-requires-5
-said-requires-5 c κs = search needs
-
+-- src/reply.rt:17:1
 returns : tie.Need-returns
 unfolding answerReply
-returns c = rw (c .said .ensures, c .before .before .before .narrow .ensures, c .before .enum-told .given .1)
+returns c =
+    let says = c .before in
+    let known = says .before in
+    c .pack .ensures ∙ ap packed (rw (says .said .ensures, known .before .before .narrow .ensures, known .enum-told .given .1))
 
+-- src/reply.rt:17:1
 returns-2 : tie.Need-returns-2
 unfolding answerReply
-returns-2 c = rw (c .placed .ensures, c .before .narrow2 .ensures, c .before .before .before .before .before .narrow .ensures, c .before .before .before .answer .given .1)
+returns-2 c =
+    let says = c .before in
+    let place = says .before .before .before in
+    let reply = place .before .before .before in
+    c .pack2 .ensures
+    ∙ ap packed (rw (says .placed .ensures, says .before .narrow2 .ensures, reply .before .before .narrow .ensures, reply .reply .given .1, place .place .given .1))
 
+-- src/reply.rt:17:1
 returns-3 : tie.Need-returns-3
 unfolding answerReply
 returns-3 c =
-    let place = c .before .before in
-    let known = place .before .before in
-    let at : place .narrow3 .result ≡ (known .answer2 .given .0 .0 + 2) % 256 = omega arith in
-    rw (c .placed2 .ensures, c .before .narrow4 .ensures, at, known .before .before .narrow .ensures, known .answer2 .given .1)
+    let says = c .before in
+    let offset = says .before .before in
+    let place = offset .before .before in
+    let reply = place .before .before .before in
+    let at : offset .narrow3 .result ≡ (place .place2 .given .0 .0 + 2) % 256 = omega arith in
+    c .pack3 .ensures
+    ∙ ap packed (rw (says .placed2 .ensures, says .before .narrow4 .ensures, at, reply .before .before .narrow .ensures, reply .reply .given .1, place .place2 .given .1))
 
+-- src/reply.rt:17:1
 returns-4 : tie.Need-returns-4
 unfolding answerReply
-returns-4 c = rw (c .said2 .ensures, c .before .before .before .before .narrow .ensures, c .before .before .answer3 .given .1)
-
-returns-5 : tie.Need-returns-5
-unfolding answerReply
-returns-5 c = rw (c .said3 .ensures, c .before .before .before .before .narrow .ensures, c .before .before .answer4 .given .1)
-
-returns-6 : tie.Need-returns-6
-unfolding answerReply
-returns-6 c = rw (c .said4 .ensures, c .before .before .before .before .narrow .ensures, c .before .before .answer5 .given .1)
-
-returns-7 : tie.Need-returns-7
-unfolding answerReply
-returns-7 c = rw (c .said5 .ensures, c .before .before .before .narrow .ensures, c .before .enum-told2 .given .1)
+returns-4 c =
+    let says = c .before in
+    let reply = says .before .before in
+    c .pack4 .ensures ∙ ap packed (rw (says .carried .ensures, reply .before .before .narrow .ensures, reply .reply2 .given .1))
 
 pub answer-call-spec : {M : Type 1} → statement M
 answer-call-spec =
@@ -103,26 +132,22 @@ answer-call-spec =
     narrow-requires
     enum-told
     said-requires
-    enum-known-answer
+    pack-requires
+    enum-known-reply
+    enum-known-place
     narrow-requires-2
     placed-requires
-    enum-known-answer-2
+    pack-requires-2
+    enum-known-place-2
     add-narrow
     narrow-requires-3
     narrow-requires-4
     placed-requires-2
-    enum-known-answer-3
-    said-requires-2
-    enum-known-answer-4
-    said-requires-3
-    enum-known-answer-5
-    said-requires-4
-    enum-told-2
-    said-requires-5
+    pack-requires-3
+    enum-known-reply-2
+    carried-requires
+    pack-requires-4
     returns
     returns-2
     returns-3
-    returns-4
-    returns-5
-    returns-6
-    returns-7)
+    returns-4)
