@@ -11,8 +11,9 @@ ghost use Rattle.writing.specs.Writing.{writtenRow, writeOf};
 ghost use Rattle.channels.specs.Digits.{Below};
 ghost use Rattle.channels.specs.Channels.{channelsOf, channelBytes, channelsSize, channelsRead, firstAbove, channelsImage};
 
-// How many channels, and the greatest that 11 bits hold.
 const COUNT: usize = 16;
+
+// The greatest number of 11 bits.
 const GREATEST: u16 = 2047;
 
 // Raw channel values. Those up to 2047 can be written.

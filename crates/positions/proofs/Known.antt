@@ -18,8 +18,12 @@ use Rattle.positions.specs.declared.gps_extended.GpsExtendedRead.the-var
 
 abbrev gpsOf : List ℤ → Gps
 gpsOf vs = record {
-    latitude = whole 0 vs; longitude = whole 1 vs; groundspeed = natural 2 vs; heading = natural 3 vs; altitude = natural 4 vs;
-    satellites = natural 5 vs;
+  latitude = whole 0 vs;
+  longitude = whole 1 vs;
+  groundspeed = natural 2 vs;
+  heading = natural 3 vs;
+  altitude = natural 4 vs;
+  satellites = natural 5 vs;
 }
 
 pub gps-known : {x y : Gps} {vs : List ℤ} → gpsValues x ≡ vs → gpsValues y ≡ vs → x ≡ y
@@ -40,9 +44,18 @@ gps-read-known {r} {r′} p q = gps-cases r r′ (p ∙ sym q)
 
 abbrev gpsExtendedOf : List ℤ → GpsExtended
 gpsExtendedOf vs = record {
-    «fix_type» = natural 0 vs; «n_speed» = whole 1 vs; «e_speed» = whole 2 vs; «v_speed» = whole 3 vs; «h_speed_acc» = whole 4 vs;
-    «track_acc» = whole 5 vs; «alt_ellipsoid» = whole 6 vs; «h_acc» = whole 7 vs; «v_acc» = whole 8 vs; reserved = natural 9 vs;
-    «h_dop» = natural 10 vs; «v_dop» = natural 11 vs;
+  «fix_type» = natural 0 vs;
+  «n_speed» = whole 1 vs;
+  «e_speed» = whole 2 vs;
+  «v_speed» = whole 3 vs;
+  «h_speed_acc» = whole 4 vs;
+  «track_acc» = whole 5 vs;
+  «alt_ellipsoid» = whole 6 vs;
+  «h_acc» = whole 7 vs;
+  «v_acc» = whole 8 vs;
+  reserved = natural 9 vs;
+  «h_dop» = natural 10 vs;
+  «v_dop» = natural 11 vs;
 }
 
 pub gps-extended-known : {x y : GpsExtended} {vs : List ℤ} → gpsExtendedValues x ≡ vs → gpsExtendedValues y ≡ vs → x ≡ y

@@ -7,7 +7,7 @@ use mathlib.Core.Path.{_≡_, sym, ap}
 use lib.Dec.{lit≤}
 use lib.ListN.{length}
 use Rattle.base.specs.Bytes.{Bytes}
-use Rattle.layout.specs.Layout.{HoldsAll, recordBytes}
+use Rattle.layout.specs.Layout.{sizeOf, HoldsAll, recordBytes}
 use Rattle.writing.specs.Writing.{bytes}
 use Rattle.layout.proofs.Fields.{length-recordBytes, readAs-written}
 use Rattle.layout.specs.Decoded.{decoded, tooShort}
@@ -21,7 +21,7 @@ use Rattle.positions.specs.declared.gps_extended.GpsExtendedRead as gpsE
 
 -- ---- gps
 
-pub gps-long : (x : Gps) → length (recordBytes gpsLayout (gpsValues x)) ≡ 15
+pub gps-long : (x : Gps) → length (recordBytes gpsLayout (gpsValues x)) ≡ sizeOf gpsLayout
 unfolding gpsValues
 gps-long x = length-recordBytes gpsLayout (gpsValues x) (lit≤ tt)
 
@@ -29,13 +29,13 @@ pub gps-read-written : (x : Gps) (after : List ℕ) → HoldsAll gpsLayout (gpsV
 unfolding gpsDecoded
 gps-read-written x after h = sym (readAs-written gpsLayout decoded tooShort (gpsValues x) after h)
 
-pub gps-written-read : (x : Gps) (payload : List ℕ) → Bytes payload → length payload ≡ 15 → gpsDecoded (gpsRead.the-variants.Record x) ≡ gpsRead payload → gpsImage x ≡ bytes payload
+pub gps-written-read : (x : Gps) (payload : List ℕ) → Bytes payload → length payload ≡ sizeOf gpsLayout → gpsDecoded (gpsRead.the-variants.Record x) ≡ gpsRead payload → gpsImage x ≡ bytes payload
 unfolding gpsDecoded
 gps-written-read x payload b e r = ap bytes (written-back gpsLayout (gpsValues x) payload b e r)
 
 -- ---- gps extended
 
-pub gps-extended-long : (x : GpsExtended) → length (recordBytes gpsExtendedLayout (gpsExtendedValues x)) ≡ 20
+pub gps-extended-long : (x : GpsExtended) → length (recordBytes gpsExtendedLayout (gpsExtendedValues x)) ≡ sizeOf gpsExtendedLayout
 unfolding gpsExtendedValues
 gps-extended-long x = length-recordBytes gpsExtendedLayout (gpsExtendedValues x) (lit≤ tt)
 
@@ -43,6 +43,6 @@ pub gps-extended-read-written : (x : GpsExtended) (after : List ℕ) → HoldsAl
 unfolding gpsExtendedDecoded
 gps-extended-read-written x after h = sym (readAs-written gpsExtendedLayout decoded tooShort (gpsExtendedValues x) after h)
 
-pub gps-extended-written-read : (x : GpsExtended) (payload : List ℕ) → Bytes payload → length payload ≡ 20 → gpsExtendedDecoded (gpsExtendedRead.the-variants.Record x) ≡ gpsExtendedRead payload → gpsExtendedImage x ≡ bytes payload
+pub gps-extended-written-read : (x : GpsExtended) (payload : List ℕ) → Bytes payload → length payload ≡ sizeOf gpsExtendedLayout → gpsExtendedDecoded (gpsExtendedRead.the-variants.Record x) ≡ gpsExtendedRead payload → gpsExtendedImage x ≡ bytes payload
 unfolding gpsExtendedDecoded
 gps-extended-written-read x payload b e r = ap bytes (written-back gpsExtendedLayout (gpsExtendedValues x) payload b e r)

@@ -7,7 +7,7 @@ ghost use Prim.Native.Nat.{_≤_};
 ghost use lib.IntN.{pos};
 ghost use lib.ListN.{length, take, drop};
 ghost use Rattle.base.specs.Parts.{pasted};
-ghost use Rattle.layout.specs.Layout.{recordBytes};
+ghost use Rattle.layout.specs.Layout.{sizeOf, recordBytes};
 ghost use Rattle.writing.specs.Writing.{writtenRow, writeOf};
 ghost use Rattle.positions.specs.GpsExtended.{gpsExtendedLayout, gpsExtendedValues, gpsExtendedDecoded, gpsExtendedRead, gpsExtendedImage};
 
@@ -111,7 +111,7 @@ impl GpsExtended {
 
     // The first six fields, bytes 0 to 10.
     fn put_speeds(self, buffer: &mut [u8])
-        requires { ⌜ 20 ≤ length (now buffer) ⌝ }
+        requires { ⌜ sizeOf gpsExtendedLayout ≤ length (now buffer) ⌝ }
         ensures { λ _. ⌜ now (buffer .exit) ≡ pasted (now (buffer .entry)) 0 (recordBytes (take 6 gpsExtendedLayout) (take 6 (gpsExtendedValues self))) ⌝ }
     {
         numbers::put_u8(buffer, 0, self.fix_type);
@@ -124,7 +124,7 @@ impl GpsExtended {
 
     // The other six, bytes 11 to 19.
     fn put_places(self, buffer: &mut [u8])
-        requires { ⌜ 20 ≤ length (now buffer) ⌝ }
+        requires { ⌜ sizeOf gpsExtendedLayout ≤ length (now buffer) ⌝ }
         ensures { λ _. ⌜ now (buffer .exit) ≡ pasted (now (buffer .entry)) 11 (recordBytes (drop 6 gpsExtendedLayout) (drop 6 (gpsExtendedValues self))) ⌝ }
     {
         numbers::put_i16(buffer, 11, self.alt_ellipsoid);

@@ -22,9 +22,16 @@ use Rattle.records.specs.declared.battery.BatteryRead.the-variants as ba
 
 abbrev linkStatisticsOf : List ℤ → LinkStatistics
 linkStatisticsOf vs = record {
-    «uplink_rssi_1» = natural 0 vs; «uplink_rssi_2» = natural 1 vs; «uplink_link_quality» = natural 2 vs; «uplink_snr» = whole 3 vs;
-    «active_antenna» = natural 4 vs; «rf_mode» = natural 5 vs; «uplink_tx_power» = natural 6 vs; «downlink_rssi» = natural 7 vs;
-    «downlink_link_quality» = natural 8 vs; «downlink_snr» = whole 9 vs;
+  «uplink_rssi_1» = natural 0 vs;
+  «uplink_rssi_2» = natural 1 vs;
+  «uplink_link_quality» = natural 2 vs;
+  «uplink_snr» = whole 3 vs;
+  «active_antenna» = natural 4 vs;
+  «rf_mode» = natural 5 vs;
+  «uplink_tx_power» = natural 6 vs;
+  «downlink_rssi» = natural 7 vs;
+  «downlink_link_quality» = natural 8 vs;
+  «downlink_snr» = whole 9 vs;
 }
 
 pub link-statistics-known : {x y : LinkStatistics} {vs : List ℤ} → linkStatisticsValues x ≡ vs → linkStatisticsValues y ≡ vs → x ≡ y

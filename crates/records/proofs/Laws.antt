@@ -7,7 +7,7 @@ use mathlib.Core.Path.{_≡_, sym, ap}
 use lib.Dec.{lit≤}
 use lib.ListN.{length}
 use Rattle.base.specs.Bytes.{Bytes}
-use Rattle.layout.specs.Layout.{HoldsAll, recordBytes}
+use Rattle.layout.specs.Layout.{sizeOf, HoldsAll, recordBytes}
 use Rattle.writing.specs.Writing.{bytes}
 use Rattle.layout.proofs.Fields.{length-recordBytes, readAs-written}
 use Rattle.layout.specs.Decoded.{decoded, tooShort}
@@ -21,7 +21,7 @@ use Rattle.records.specs.declared.baro_altitude.BaroAltitudeRead as baro
 
 -- ---- link statistics
 
-pub link-statistics-long : (x : LinkStatistics) → length (recordBytes linkStatisticsLayout (linkStatisticsValues x)) ≡ 10
+pub link-statistics-long : (x : LinkStatistics) → length (recordBytes linkStatisticsLayout (linkStatisticsValues x)) ≡ sizeOf linkStatisticsLayout
 unfolding linkStatisticsValues
 link-statistics-long x = length-recordBytes linkStatisticsLayout (linkStatisticsValues x) (lit≤ tt)
 
@@ -29,13 +29,13 @@ pub link-statistics-read-written : (x : LinkStatistics) (after : List ℕ) → H
 unfolding linkStatisticsDecoded
 link-statistics-read-written x after h = sym (readAs-written linkStatisticsLayout decoded tooShort (linkStatisticsValues x) after h)
 
-pub link-statistics-written-read : (x : LinkStatistics) (payload : List ℕ) → Bytes payload → length payload ≡ 10 → linkStatisticsDecoded (linkStatisticsRead.the-variants.Record x) ≡ linkStatisticsRead payload → linkStatisticsImage x ≡ bytes payload
+pub link-statistics-written-read : (x : LinkStatistics) (payload : List ℕ) → Bytes payload → length payload ≡ sizeOf linkStatisticsLayout → linkStatisticsDecoded (linkStatisticsRead.the-variants.Record x) ≡ linkStatisticsRead payload → linkStatisticsImage x ≡ bytes payload
 unfolding linkStatisticsDecoded
 link-statistics-written-read x payload b e r = ap bytes (written-back linkStatisticsLayout (linkStatisticsValues x) payload b e r)
 
 -- ---- baro altitude
 
-pub baro-altitude-long : (x : BaroAltitude) → length (recordBytes baroAltitudeLayout (baroAltitudeValues x)) ≡ 3
+pub baro-altitude-long : (x : BaroAltitude) → length (recordBytes baroAltitudeLayout (baroAltitudeValues x)) ≡ sizeOf baroAltitudeLayout
 unfolding baroAltitudeValues
 baro-altitude-long x = length-recordBytes baroAltitudeLayout (baroAltitudeValues x) (lit≤ tt)
 
@@ -43,6 +43,6 @@ pub baro-altitude-read-written : (x : BaroAltitude) (after : List ℕ) → Holds
 unfolding baroAltitudeDecoded
 baro-altitude-read-written x after h = sym (readAs-written baroAltitudeLayout decoded tooShort (baroAltitudeValues x) after h)
 
-pub baro-altitude-written-read : (x : BaroAltitude) (payload : List ℕ) → Bytes payload → length payload ≡ 3 → baroAltitudeDecoded (baroAltitudeRead.the-variants.Record x) ≡ baroAltitudeRead payload → baroAltitudeImage x ≡ bytes payload
+pub baro-altitude-written-read : (x : BaroAltitude) (payload : List ℕ) → Bytes payload → length payload ≡ sizeOf baroAltitudeLayout → baroAltitudeDecoded (baroAltitudeRead.the-variants.Record x) ≡ baroAltitudeRead payload → baroAltitudeImage x ≡ bytes payload
 unfolding baroAltitudeDecoded
 baro-altitude-written-read x payload b e r = ap bytes (written-back baroAltitudeLayout (baroAltitudeValues x) payload b e r)

@@ -21,6 +21,10 @@ batteryType = 0x08
 abbrev pub batteryLayout : List Field
 batteryLayout = signed 2 ∷ signed 2 ∷ unsigned 3 ∷ unsigned 1 ∷ unsigned 1 ∷ []
 
+-- without the id
+abbrev pub shortLayout : List Field
+shortLayout = take 4 batteryLayout
+
 unfoldable pub batteryValues : Battery → List ℤ
 batteryValues x =
     x .voltage ∷ x .current ∷ pos (x .«capacity_used») ∷ pos (x .remaining) ∷ pos (x .id) ∷ []
@@ -32,11 +36,11 @@ batteryDecoded (Refused r) = refused (rowOf r)
 -- nine bytes or more have an id, eight have none
 unfoldable pub batteryRead : List ℕ → Decoded
 batteryRead payload =
-    readAs batteryLayout decoded (readAs (take 4 batteryLayout) (λ vs. decoded (vs ++ (pos 0 ∷ []))) tooShort payload) payload
+    readAs batteryLayout decoded (readAs shortLayout (λ vs. decoded (vs ++ (pos 0 ∷ []))) tooShort payload) payload
 
 -- the fields that are written
 abbrev pub batteryFields : ℕ → List Field
-batteryFields id = if eqb id 0 then take 4 batteryLayout else batteryLayout
+batteryFields id = if eqb id 0 then shortLayout else batteryLayout
 
 abbrev pub batteryImage : Battery → Image
 batteryImage x = bytes (recordBytes (batteryFields (x .id)) (batteryValues x))

@@ -7,7 +7,7 @@ ghost use Prim.Native.Nat.{_≤_};
 ghost use lib.IntN.{pos};
 ghost use lib.ListN.{length, take, drop};
 ghost use Rattle.base.specs.Parts.{pasted};
-ghost use Rattle.layout.specs.Layout.{recordBytes};
+ghost use Rattle.layout.specs.Layout.{sizeOf, recordBytes};
 ghost use Rattle.writing.specs.Writing.{writtenRow, writeOf};
 ghost use Rattle.records.specs.LinkStatistics.{linkStatisticsLayout, linkStatisticsValues, linkStatisticsDecoded, linkStatisticsRead, linkStatisticsImage};
 
@@ -99,7 +99,7 @@ impl LinkStatistics {
 
     // The first five fields, bytes 0 to 4.
     fn put_first_five(self, buffer: &mut [u8])
-        requires { ⌜ 10 ≤ length (now buffer) ⌝ }
+        requires { ⌜ sizeOf linkStatisticsLayout ≤ length (now buffer) ⌝ }
         ensures { λ _. ⌜ now (buffer .exit) ≡ pasted (now (buffer .entry)) 0 (recordBytes (take 5 linkStatisticsLayout) (take 5 (linkStatisticsValues self))) ⌝ }
     {
         numbers::put_u8(buffer, 0, self.uplink_rssi_1);
@@ -111,7 +111,7 @@ impl LinkStatistics {
 
     // The other five, bytes 5 to 9.
     fn put_other_five(self, buffer: &mut [u8])
-        requires { ⌜ 10 ≤ length (now buffer) ⌝ }
+        requires { ⌜ sizeOf linkStatisticsLayout ≤ length (now buffer) ⌝ }
         ensures { λ _. ⌜ now (buffer .exit) ≡ pasted (now (buffer .entry)) 5 (recordBytes (drop 5 linkStatisticsLayout) (drop 5 (linkStatisticsValues self))) ⌝ }
     {
         numbers::put_u8(buffer, 5, self.rf_mode);

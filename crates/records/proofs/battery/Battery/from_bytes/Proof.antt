@@ -8,7 +8,7 @@ use borrow.Author.Tests.{le-leb, lt-leb}
 use lib.IntN.{ℤ, pos}
 use lib.ListN.{length, take}
 use Rattle.layout.specs.Decoded.{decoded}
-use Rattle.records.specs.Battery.{batteryLayout, batteryValues, batteryDecoded, batteryRead}
+use Rattle.records.specs.Battery.{batteryLayout, shortLayout, batteryValues, batteryDecoded, batteryRead}
 use Rattle.layout.proofs.Readers.{gotFrom, got}
 use borrow.Author.Needs.{needs}
 use Rattle.records.proofs.battery.Battery.from_bytes.Statement.{statement}
@@ -43,7 +43,7 @@ returns-2 c =
     let payload : List ℕ = room .before .before .args .payload .now in
     simp (lt-leb 9 (length payload) (c .if2 .taken), le-leb 8 (length payload) (room .if1 .left))
     (rw (remaining .get-u8 .ensures, capacity-used .get-u24 .ensures, current .get-i162 .ensures, voltage .get-i16 .ensures)
-    (ap (λ (vs : List ℤ). decoded (vs ++ (pos 0 ∷ []))) (got (take 4 batteryLayout) payload tt (room .before .shared-slice-known .given))))
+    (ap (λ (vs : List ℤ). decoded (vs ++ (pos 0 ∷ []))) (got shortLayout payload tt (room .before .shared-slice-known .given))))
 
 get-u8-requires-2 : tie.Need-get-u8-requires-2
 get-u8-requires-2 c κs = search needs
