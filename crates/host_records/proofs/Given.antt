@@ -1,8 +1,9 @@
 -- What the readers for a host give: numbers copied to the front of a slice, then each record by what its reader answers.
 -- Assumes nothing.
 use mathlib.Core.Path.{_≡_, sym, ap, _∙_}
-use mathlib.Core.List.{List, [], _++_}
-use Prim.Native.Nat.{ℕ, suc, _+_, _^_, _≤_, _<_}
+use mathlib.Core.Bool.{_&&_}
+use mathlib.Core.List.{List, _++_}
+use Prim.Native.Nat.{ℕ, suc, _+_, _^_, _%_, _≤_, _<_}
 use native.Mathlib.Nat.{mod-eq-of-lt, min-le-right, zero-add}
 use native.Mathlib.Numerals.{add-one}
 use native.Mathlib.Omega.{arith}
@@ -16,21 +17,26 @@ use Rattle.base.specs.Bytes.{Bytes}
 use Rattle.base.specs.Parts.{part, copied}
 use Rattle.base.proofs.Parts.{length-part, bytes-part, copied-fits}
 use Rattle.base.proofs.Tests.{by-test}
+use Rattle.refusals.specs.Row.{rowOf}
+use Rattle.refusals.specs.declared.Refusal.{Refusal}
+use Rattle.refusals.specs.declared.Refusal.the-variants.{BufferOverflow}
 use Rattle.numbers.specs.BigEndian.{beOf}
 use Rattle.numbers.proofs.BigEndian.{beOf-lt}
-use Rattle.fields.specs.Answer.{Answer}
+use Rattle.layout.specs.Decoded.{Decoded, decoded, refused, readRow}
+use Rattle.layout.specs.declared.ReadAnswer.{ReadAnswer}
+use Rattle.layout.specs.declared.ReadAnswer.the-variants.{Record, Refused}
+use Rattle.layout.proofs.Known.{natural, numbersOf}
 use Rattle.records.specs.Battery.{batteryValues, batteryRead}
 use Rattle.records.specs.declared.battery.Battery.{Battery}
-use Rattle.layout.specs.declared.ReadAnswer.{ReadAnswer}
-use Rattle.layout.specs.declared.ReadAnswer.the-variants.{Record, InvalidPayloadLength}
 use Rattle.channels.specs.Channels.{channelsRead}
-use Rattle.channels.specs.declared.ChannelsRead.{ChannelsRead}
+use Rattle.channels.specs.declared.RcChannelsPacked.{RcChannelsPacked}
 use Rattle.rpm.specs.Runs.{wholeIn, runRead}
 use Rattle.rpm.specs.Rpm.{rpmField, rpmRead}
-use Rattle.rpm.specs.declared.RpmRead.{RpmRead}
+use Rattle.rpm.specs.declared.Rpm.{Rpm}
 use Rattle.host_answer.specs.declared.answer.HostAnswer.{HostAnswer}
 use Rattle.host_answer.specs.Answer.{packed, answerCount, answerRefusal}
-use Rattle.host_records.specs.Read.{given, givenAll, gives, keptBattery, byAnswer, givesChannels, runOf, givenRpm, givesRpm}
+use Rattle.host_answer.proofs.Rows.{not-success, row-refusal}
+use Rattle.host_records.specs.Read.{given, givenAll, givenShort, gives, keptBattery, byRow, givesChannels, runOf, givenRpm, givesRpm}
 
 module _ {A : Type 0} (s d : List A) where
   pub copy-more : (z : A) (i : ℕ) → i < length s → i < length d → set (take i s ++ drop i d) i (getD s i z) ≡ take (i + 1) s ++ drop (i + 1) d
@@ -52,67 +58,74 @@ module _ {A : Type 0} (s d : List A) where
     unfolding given
     given-all room = simp (size, le-leb _ _ room)
 
-    pub given-none : length d < n → (packed (answerRefusal 5), d) ≡ given answer s d
+    pub given-none : length d < n → (packed (answerRefusal BufferOverflow), d) ≡ given answer s d
     unfolding given
     given-none short = simp (size, lt-leb _ _ short)
 
--- ---- Records that stand beside their answer
+-- all of the numbers that a function lists: few enough that a byte has their count
+pub all-given : {A : Type 0} (out : List A) {ws vs : List A} {gave : ℕ × List A} → gave ≡ givenShort vs out → vs ≡ ws → length ws < 256 → gave ≡ givenAll ws out
+all-given out {ws} gave same few = gave ∙ rw (same, mod-eq-of-lt few)
 
-module _ {m : ChannelsRead} (payload out : List ℕ) (read : m ≡ channelsRead payload) where
-  by-channels : {a : ReadAnswer} → m .answer ≡ a → byAnswer a (givenAll (m .channels .0) out) out ≡ givesChannels (channelsRead payload) out
+-- ---- Records that stand beside their answer: what is given of a record, or what the answer refuses
+
+module _ {A R : Type 0} (wholeOf : R → ℕ × List A) (out : List A) {a : ReadAnswer} {x : R} {z : List ℕ × R} (read : (readRow a, x) ≡ z) where
+  by-answer : {b : ReadAnswer} → a ≡ b → byRow (readRow b) (wholeOf x) out ≡ byRow (z .0) (wholeOf (z .1)) out
+  by-answer e =
+      ap (λ (b : ReadAnswer). byRow (readRow b) (wholeOf x) out) (sym e) ∙ ap (λ (y : List ℕ × R). byRow (y .0) (wholeOf (y .1)) out) read
+
+  beside-given : a ≡ Record → wholeOf x ≡ byRow (z .0) (wholeOf (z .1)) out
+  unfolding readRow
+  beside-given = by-answer
+
+  beside-refused : (r : Refusal) → a ≡ Refused r → (packed (answerRefusal r), out) ≡ byRow (z .0) (wholeOf (z .1)) out
+  unfolding readRow
+  beside-refused r e = simp (not-success r, row-refusal r) at (by-answer e)
+
+module _ (payload out : List ℕ) {a : ReadAnswer} {x : RcChannelsPacked} (read : (readRow a, x) ≡ channelsRead payload) where
+  pub channels-given : a ≡ Record → givenAll (x .0) out ≡ givesChannels (channelsRead payload) out
   unfolding givesChannels
-  by-channels e =
-      ap (λ (x : ReadAnswer). byAnswer x (givenAll (m .channels .0) out) out) (sym e) ∙ ap (λ (x : ChannelsRead). givesChannels x out) read
+  channels-given = beside-given (λ (y : RcChannelsPacked). givenAll (y .0) out) out read
 
-  pub channels-given : m .answer ≡ Record → givenAll (m .channels .0) out ≡ givesChannels (channelsRead payload) out
-  channels-given = by-channels
-
-  pub channels-refused : m .answer ≡ InvalidPayloadLength → (packed (answerRefusal 4), out) ≡ givesChannels (channelsRead payload) out
-  channels-refused = by-channels
+  pub channels-refused : (r : Refusal) → a ≡ Refused r → (packed (answerRefusal r), out) ≡ givesChannels (channelsRead payload) out
+  unfolding givesChannels
+  channels-refused = beside-refused (λ (y : RcChannelsPacked). givenAll (y .0) out) out read
 
 -- a record that is read has at most 19 values
-few-read : (payload : List ℕ) → rpmRead payload .rpm .count ≤ 19
+few-read : (payload : List ℕ) → rpmRead payload .1 .count ≤ 19
 unfolding rpmRead runRead
 few-read payload =
     by-test (leb 3 (length payload))
     (λ t. by-test (leb (wholeIn rpmField payload) 19) (λ u. simp (t, u) (leb-true _ 19 u)) (λ u. simp (t, u) (lit≤ tt)))
     (λ t. simp t (lit≤ tt))
 
-module _ {m : RpmRead} (payload : List ℕ) (out : List ℤ) (read : m ≡ rpmRead payload) where
-  by-rpm : {a : ReadAnswer} → m .answer ≡ a → byAnswer a (runOf (m .rpm .count) (m .rpm) out) out ≡ givesRpm (rpmRead payload) out
+module _ (payload : List ℕ) (out : List ℤ) {a : ReadAnswer} {x : Rpm} (read : (readRow a, x) ≡ rpmRead payload) where
+  pub rpm-given : a ≡ Record → givenRpm x out ≡ givesRpm (rpmRead payload) out
   unfolding givesRpm
-  by-rpm e = ap (λ (x : ReadAnswer). byAnswer x (runOf (m .rpm .count) (m .rpm) out) out) (sym e) ∙ ap (λ (x : RpmRead). givesRpm x out) read
-
-  pub rpm-given : m .answer ≡ Record → givenRpm (m .rpm) out ≡ givesRpm (rpmRead payload) out
   rpm-given e =
-      let few : m .rpm .count ≤ 19 = rw read (few-read payload) in
-      ap (λ (n : ℕ). runOf n (m .rpm) out) (mod-eq-of-lt (omega arith)) ∙ by-rpm e
+      let few : x .count ≤ 19 = rw (ap (λ (z : List ℕ × Rpm). z .1) read) (few-read payload) in
+      ap (λ (n : ℕ). runOf n x out) (mod-eq-of-lt (omega arith)) ∙ beside-given (λ (y : Rpm). runOf (y .count) y out) out read e
 
-  pub rpm-refused : m .answer ≡ InvalidPayloadLength → (packed (answerRefusal 4), out) ≡ givesRpm (rpmRead payload) out
-  rpm-refused = by-rpm
+  pub rpm-refused : (r : Refusal) → a ≡ Refused r → (packed (answerRefusal r), out) ≡ givesRpm (rpmRead payload) out
+  unfolding givesRpm
+  rpm-refused = beside-refused (λ (y : Rpm). runOf (y .count) y out) out read
 
--- ---- Records of fixed layouts, by the number and the values that their reading answers
+-- ---- Records of fixed layouts, by what their reader decodes
 
--- all of the numbers that a function lists, given
-pub all-given : (out : List ℤ) {ws vs : List ℤ} {answer : HostAnswer} {n : ℕ} {gave : ℕ × List ℤ} → length ws ≡ n
-    → vs ≡ ws → answer ≡ answerCount n → gave ≡ given answer (take n vs) out → gave ≡ givenAll ws out
-all-given out {ws} {n = n} size same is-count gives = gives ∙ rw (same, is-count, take-all n ws (omega arith), size)
-
-module _ {M : Type 0} (answerOf : M → Answer) (out : List ℤ) {m : M} {read : Answer} (reads : answerOf m ≡ read) where
-  pub fixed-given : {x : M} {ws : List ℤ} {gave : ℕ × List ℤ} → m ≡ x → answerOf x ≡ (0, ws) → gave ≡ givenAll ws out → gave ≡ gives read out
+module _ {M : Type 0} (decodedBy : M → Decoded) (out : List ℤ) {m : M} {read : Decoded} (reads : decodedBy m ≡ read) where
+  pub fixed-given : {x : M} {ws : List ℤ} {gave : ℕ × List ℤ} → m ≡ x → decodedBy x ≡ decoded ws → gave ≡ givenAll ws out → gave ≡ gives read out
   unfolding gives
   fixed-given known is gave = gave ∙ rw (← reads, known, is)
 
-  pub fixed-refused : {x : M} {r : ℕ} → m ≡ x → answerOf x ≡ (4, []) → r ≡ packed (answerRefusal 4) → (r, out) ≡ gives read out
+  pub fixed-refused : {x : M} {n : ℕ} (r : Refusal) → m ≡ x → decodedBy x ≡ refused (rowOf r) → n ≡ packed (answerRefusal r) → (n, out) ≡ gives read out
   unfolding gives
-  fixed-refused known is refuses = rw (refuses, ← reads, known, is)
+  fixed-refused r known is refuses = rw (refuses, ← reads, known, is, row-refusal r)
 
 -- the capacity that a battery record reads as has 24 bits
 capacity-bound : (payload : List ℕ) → Bytes payload → 7 ≤ length payload → beOf (part payload 4 3) < 2 ^ 24
 capacity-bound payload b h =
     rw (length-part payload 4 3 (omega arith)) at (beOf-lt (part payload 4 3) (bytes-part payload 4 3 b))
 
-third-fits : (payload : List ℕ) → Bytes payload → mag (getD (batteryRead payload .1) 2 (pos 0)) < 2 ^ 24
+third-fits : (payload : List ℕ) → Bytes payload → natural 2 (numbersOf (batteryRead payload)) < 2 ^ 24
 unfolding batteryRead
 third-fits payload b =
     by-test (leb 9 (length payload))
@@ -122,9 +135,9 @@ third-fits payload b =
     (λ u. simp (t, u) (capacity-bound payload b (omega (arith, leb-true 8 (length payload) u))))
     (λ u. simp (t, u) (lit< tt)))
 
-capacity-fits : (payload : List ℕ) (x : Battery) → Bytes payload → batteryRead payload ≡ (0, batteryValues x) → x .«capacity_used» < 2 ^ 24
+capacity-fits : (payload : List ℕ) (x : Battery) → Bytes payload → batteryRead payload ≡ decoded (batteryValues x) → x .«capacity_used» < 2 ^ 24
 unfolding batteryValues
-capacity-fits payload x b e = rw (sym (ap (λ (a : Answer). mag (getD (a .1) 2 (pos 0))) e)) (third-fits payload b)
+capacity-fits payload x b e = rw (sym (ap (λ (a : Decoded). natural 2 (numbersOf a)) e)) (third-fits payload b)
 
-pub battery-kept : (payload : List ℕ) (x : Battery) → Bytes payload → batteryRead payload ≡ (0, batteryValues x) → keptBattery x ≡ x
+pub battery-kept : (payload : List ℕ) (x : Battery) → Bytes payload → batteryRead payload ≡ decoded (batteryValues x) → keptBattery x ≡ x
 battery-kept payload x b e = rw (mod-eq-of-lt (capacity-fits payload x b e))

@@ -12,6 +12,7 @@ use positions::gps_extended::GpsExtended;
 use records::baro_altitude::BaroAltitude;
 use records::battery::Battery;
 use records::link_statistics::LinkStatistics;
+use refusals::Refusal;
 use rpm::Rpm;
 ghost use mathlib.Core.Path.{_≡_};
 ghost use mathlib.Core.List.{_++_};
@@ -22,7 +23,7 @@ ghost use Rattle.positions.specs.GpsExtended.{gpsExtendedValues};
 ghost use Rattle.records.specs.LinkStatistics.{linkStatisticsValues};
 ghost use Rattle.records.specs.Battery.{batteryValues};
 ghost use Rattle.records.specs.BaroAltitude.{baroAltitudeValues};
-ghost use Rattle.host_records.specs.Read.{given, givenAll, keptBattery, answerRpm, givenRpm};
+ghost use Rattle.host_records.specs.Read.{given, givenShort, givenAll, keptBattery, answerRpm, givenRpm};
 
 // How many values the first n are: n, or all that there are.
 fn at_most(values: &[i32], n: usize) -> usize
@@ -40,10 +41,18 @@ fn give(answer: HostAnswer, values: &[i32], n: usize, out: &mut [i32]) -> u64
 {
     let count = at_most(values, n);
     if out.len() < count {
-        return refuse(5);
+        return refuse(Refusal::BufferOverflow);
     }
     copy_numbers(out, values, count);
     pack(answer)
+}
+
+// All of the values, and how many they are.
+fn give_all(values: &[i32], out: &mut [i32]) -> u64
+    ensures { λ r. ⌜ (r, now (out .exit)) ≡ givenShort (now (values .entry)) (now (out .entry)) ⌝ }
+{
+    let n = values.len();
+    give(placed(0, 0, 0, narrow(n)), values, n, out)
 }
 
 fn link_statistics_values(x: LinkStatistics) -> [i32; 10]
@@ -67,7 +76,7 @@ pub fn give_link_statistics(x: LinkStatistics, out: &mut [i32]) -> u64
     ensures { λ r. ⌜ (r, now (out .exit)) ≡ givenAll (linkStatisticsValues x) (now (out .entry)) ⌝ }
 {
     let values = link_statistics_values(x);
-    give(placed(0, 0, 0, 10), &values, 10, out)
+    give_all(&values, out)
 }
 
 fn gps_values(x: Gps) -> [i32; 6]
@@ -87,7 +96,7 @@ pub fn give_gps(x: Gps, out: &mut [i32]) -> u64
     ensures { λ r. ⌜ (r, now (out .exit)) ≡ givenAll (gpsValues x) (now (out .entry)) ⌝ }
 {
     let values = gps_values(x);
-    give(placed(0, 0, 0, 6), &values, 6, out)
+    give_all(&values, out)
 }
 
 fn gps_extended_values(x: GpsExtended) -> [i32; 12]
@@ -113,7 +122,7 @@ pub fn give_gps_extended(x: GpsExtended, out: &mut [i32]) -> u64
     ensures { λ r. ⌜ (r, now (out .exit)) ≡ givenAll (gpsExtendedValues x) (now (out .entry)) ⌝ }
 {
     let values = gps_extended_values(x);
-    give(placed(0, 0, 0, 12), &values, 12, out)
+    give_all(&values, out)
 }
 
 fn battery_values(x: Battery) -> [i32; 5]
@@ -132,7 +141,7 @@ pub fn give_battery(x: Battery, out: &mut [i32]) -> u64
     ensures { λ r. ⌜ (r, now (out .exit)) ≡ givenAll (batteryValues (keptBattery x)) (now (out .entry)) ⌝ }
 {
     let values = battery_values(x);
-    give(placed(0, 0, 0, 5), &values, 5, out)
+    give_all(&values, out)
 }
 
 fn baro_altitude_values(x: BaroAltitude) -> [i32; 2]
@@ -145,7 +154,7 @@ pub fn give_baro_altitude(x: BaroAltitude, out: &mut [i32]) -> u64
     ensures { λ r. ⌜ (r, now (out .exit)) ≡ givenAll (baroAltitudeValues x) (now (out .entry)) ⌝ }
 {
     let values = baro_altitude_values(x);
-    give(placed(0, 0, 0, 2), &values, 2, out)
+    give_all(&values, out)
 }
 
 fn copy_channels(out: &mut [u16], channels: &[u16], n: usize)
@@ -159,15 +168,23 @@ fn copy_channels(out: &mut [u16], channels: &[u16], n: usize)
     }
 }
 
+// As `give_all`, of channels.
+fn give_all_channels(channels: &[u16], out: &mut [u16]) -> u64
+    ensures { λ r. ⌜ (r, now (out .exit)) ≡ givenShort (now (channels .entry)) (now (out .entry)) ⌝ }
+{
+    let n = channels.len();
+    if out.len() < n {
+        return refuse(Refusal::BufferOverflow);
+    }
+    copy_channels(out, channels, n);
+    count(n)
+}
+
 pub fn give_channels(channels: RcChannelsPacked, out: &mut [u16]) -> u64
     ensures { λ r. ⌜ (r, now (out .exit)) ≡ givenAll (channels .0) (now (out .entry)) ⌝ }
 {
-    if out.len() < 16 {
-        return refuse(5);
-    }
     let all = channels.0;
-    copy_channels(out, &all, 16);
-    count(16)
+    give_all_channels(&all, out)
 }
 
 // How many RPM values were read, and the source id.

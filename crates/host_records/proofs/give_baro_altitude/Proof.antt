@@ -1,5 +1,5 @@
 -- `host_records::give_baro_altitude` meets its contract. Assumes nothing.
-use mathlib.Core.Path.{refl}
+use lib.Dec.{lit<}
 use Rattle.records.specs.BaroAltitude.{baroAltitudeValues}
 use Rattle.host_records.proofs.Given.{all-given}
 use borrow.Author.Needs.{needs}
@@ -9,14 +9,11 @@ use Rattle.host_records.proofs.give_baro_altitude.Tie as tie
 baro-altitude-values-requires : tie.Need-baro-altitude-values-requires
 baro-altitude-values-requires c κs = search needs
 
-placed-requires : tie.Need-placed-requires
-placed-requires c κs = search needs
+slice-aggregate-give-all : tie.Need-slice-aggregate-give-all
+slice-aggregate-give-all c = search needs
 
-slice-aggregate-give : tie.Need-slice-aggregate-give
-slice-aggregate-give c = search needs
-
-give-requires : tie.Need-give-requires
-give-requires c κs = search needs
+give-all-requires : tie.Need-give-all-requires
+give-all-requires c κs = search needs
 
 same-length : tie.Need-same-length
 same-length c = search needs
@@ -25,17 +22,15 @@ returns : tie.Need-returns
 unfolding baroAltitudeValues
 returns c =
     let gave = c .before in
-    let made = gave .before .before .before in
-    let listed = made .before in
-    all-given (listed .before .args .out .now) refl (listed .baro-altitude-values .ensures) (made .placed .ensures) (gave .give .ensures)
+    let listed = gave .before .before .before in
+    all-given (listed .before .args .out .now) (gave .give-all .ensures) (listed .baro-altitude-values .ensures) (lit< tt)
 
 pub give-baro-altitude-spec : {M : Type 1} → statement M
 give-baro-altitude-spec =
     tie.close
     (tie.spec
     baro-altitude-values-requires
-    placed-requires
-    slice-aggregate-give
-    give-requires
+    slice-aggregate-give-all
+    give-all-requires
     same-length
     returns)

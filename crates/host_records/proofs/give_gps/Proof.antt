@@ -1,5 +1,5 @@
 -- `host_records::give_gps` meets its contract. Assumes nothing.
-use mathlib.Core.Path.{refl}
+use lib.Dec.{lit<}
 use Rattle.positions.specs.Gps.{gpsValues}
 use Rattle.host_records.proofs.Given.{all-given}
 use borrow.Author.Needs.{needs}
@@ -9,14 +9,11 @@ use Rattle.host_records.proofs.give_gps.Tie as tie
 gps-values-requires : tie.Need-gps-values-requires
 gps-values-requires c κs = search needs
 
-placed-requires : tie.Need-placed-requires
-placed-requires c κs = search needs
+slice-aggregate-give-all : tie.Need-slice-aggregate-give-all
+slice-aggregate-give-all c = search needs
 
-slice-aggregate-give : tie.Need-slice-aggregate-give
-slice-aggregate-give c = search needs
-
-give-requires : tie.Need-give-requires
-give-requires c κs = search needs
+give-all-requires : tie.Need-give-all-requires
+give-all-requires c κs = search needs
 
 same-length : tie.Need-same-length
 same-length c = search needs
@@ -25,17 +22,10 @@ returns : tie.Need-returns
 unfolding gpsValues
 returns c =
     let gave = c .before in
-    let made = gave .before .before .before in
-    let listed = made .before in
-    all-given (listed .before .args .out .now) refl (listed .gps-values .ensures) (made .placed .ensures) (gave .give .ensures)
+    let listed = gave .before .before .before in
+    all-given (listed .before .args .out .now) (gave .give-all .ensures) (listed .gps-values .ensures) (lit< tt)
 
 pub give-gps-spec : {M : Type 1} → statement M
 give-gps-spec =
     tie.close
-    (tie.spec
-    gps-values-requires
-    placed-requires
-    slice-aggregate-give
-    give-requires
-    same-length
-    returns)
+    (tie.spec gps-values-requires slice-aggregate-give-all give-all-requires same-length returns)

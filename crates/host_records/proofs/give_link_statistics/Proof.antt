@@ -1,5 +1,5 @@
 -- `host_records::give_link_statistics` meets its contract. Assumes nothing.
-use mathlib.Core.Path.{refl}
+use lib.Dec.{lit<}
 use Rattle.records.specs.LinkStatistics.{linkStatisticsValues}
 use Rattle.host_records.proofs.Given.{all-given}
 use borrow.Author.Needs.{needs}
@@ -9,14 +9,11 @@ use Rattle.host_records.proofs.give_link_statistics.Tie as tie
 link-statistics-values-requires : tie.Need-link-statistics-values-requires
 link-statistics-values-requires c κs = search needs
 
-placed-requires : tie.Need-placed-requires
-placed-requires c κs = search needs
+slice-aggregate-give-all : tie.Need-slice-aggregate-give-all
+slice-aggregate-give-all c = search needs
 
-slice-aggregate-give : tie.Need-slice-aggregate-give
-slice-aggregate-give c = search needs
-
-give-requires : tie.Need-give-requires
-give-requires c κs = search needs
+give-all-requires : tie.Need-give-all-requires
+give-all-requires c κs = search needs
 
 same-length : tie.Need-same-length
 same-length c = search needs
@@ -25,17 +22,15 @@ returns : tie.Need-returns
 unfolding linkStatisticsValues
 returns c =
     let gave = c .before in
-    let made = gave .before .before .before in
-    let listed = made .before in
-    all-given (listed .before .args .out .now) refl (listed .link-statistics-values .ensures) (made .placed .ensures) (gave .give .ensures)
+    let listed = gave .before .before .before in
+    all-given (listed .before .args .out .now) (gave .give-all .ensures) (listed .link-statistics-values .ensures) (lit< tt)
 
 pub give-link-statistics-spec : {M : Type 1} → statement M
 give-link-statistics-spec =
     tie.close
     (tie.spec
     link-statistics-values-requires
-    placed-requires
-    slice-aggregate-give
-    give-requires
+    slice-aggregate-give-all
+    give-all-requires
     same-length
     returns)

@@ -2,29 +2,19 @@
 use borrow.Author.Needs.{needs}
 use Rattle.host_answer.proofs.answer.carried.Statement.{statement}
 use Rattle.host_answer.proofs.answer.carried.Tie as tie
-use Rattle.host_answer.proofs.answer.carried.Reads as reads
-use Rattle.host_answer.proofs.answer.carried.Lts as lts
-use Rattle.base.proofs.narrow.Reads as narrow-reads
-use Rattle.host_answer.proofs.answer.said.Reads as said-reads
-use Rattle.refusals.proofs.row_of.Reads as row-of-reads
 
--- src/answer.rt:91:9
 row-of-requires : tie.Need-row-of-requires
 row-of-requires c κs = search needs
 
--- src/answer.rt:92:29
 narrow-requires : tie.Need-narrow-requires
 narrow-requires c κs = search needs
 
--- src/answer.rt:92:48
 narrow-requires-2 : tie.Need-narrow-requires-2
 narrow-requires-2 c κs = search needs
 
--- src/answer.rt:92:5
 said-requires : tie.Need-said-requires
 said-requires c κs = search needs
 
--- src/answer.rt:88:1
 returns : tie.Need-returns
 returns c =
     let second = c .before in

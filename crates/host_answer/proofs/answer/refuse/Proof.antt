@@ -4,20 +4,13 @@ use Rattle.host_answer.specs.Answer.{packed}
 use borrow.Author.Needs.{needs}
 use Rattle.host_answer.proofs.answer.refuse.Statement.{statement}
 use Rattle.host_answer.proofs.answer.refuse.Tie as tie
-use Rattle.host_answer.proofs.answer.refuse.Reads as reads
-use Rattle.host_answer.proofs.answer.refuse.Lts as lts
-use Rattle.host_answer.proofs.answer.carried.Reads as carried-reads
-use Rattle.host_answer.proofs.answer.pack.Reads as pack-reads
 
--- src/answer.rt:99:10
 carried-requires : tie.Need-carried-requires
 carried-requires c κs = search needs
 
--- src/answer.rt:99:5
 pack-requires : tie.Need-pack-requires
 pack-requires c κs = search needs
 
--- src/answer.rt:96:1
 returns : tie.Need-returns
 returns c = c .pack .ensures ∙ ap packed (c .before .carried .ensures)
 

@@ -7,87 +7,61 @@ use Rattle.host_answer.specs.Reply.{answerReply}
 use borrow.Author.Needs.{needs}
 use Rattle.host_answer.proofs.reply.answer_call.Statement.{statement}
 use Rattle.host_answer.proofs.reply.answer_call.Tie as tie
-use Rattle.host_answer.proofs.reply.answer_call.Reads as reads
-use Rattle.host_answer.proofs.reply.answer_call.Lts as lts
-use Rattle.base.proofs.narrow.Reads as narrow-reads
-use Rattle.host_answer.proofs.answer.carried.Reads as carried-reads
-use Rattle.host_answer.proofs.answer.pack.Reads as pack-reads
-use Rattle.host_answer.proofs.answer.placed.Reads as placed-reads
-use Rattle.host_answer.proofs.answer.said.Reads as said-reads
 
--- src/reply.rt:21:9
 narrow-requires : tie.Need-narrow-requires
 narrow-requires c κs = search needs
 
--- src/reply.rt:23:29
 enum-told : tie.Need-enum-told
 enum-told c = search needs
 
--- src/reply.rt:23:29
 said-requires : tie.Need-said-requires
 said-requires c κs = search needs
 
--- src/reply.rt:23:24
 pack-requires : tie.Need-pack-requires
 pack-requires c κs = search needs
 
--- src/reply.rt:24:22
 enum-known-reply : tie.Need-enum-known-reply
 enum-known-reply c = search needs
 
--- src/reply.rt:25:28
 enum-known-place : tie.Need-enum-known-place
 enum-known-place c = search needs
 
--- src/reply.rt:25:61
 narrow-requires-2 : tie.Need-narrow-requires-2
 narrow-requires-2 c κs = search needs
 
--- src/reply.rt:25:41
 placed-requires : tie.Need-placed-requires
 placed-requires c κs = search needs
 
--- src/reply.rt:25:36
 pack-requires-2 : tie.Need-pack-requires-2
 pack-requires-2 c κs = search needs
 
--- src/reply.rt:26:29
 enum-known-place-2 : tie.Need-enum-known-place-2
 enum-known-place-2 c = search needs
 
--- src/reply.rt:26:71
 add-narrow : tie.Need-add-narrow
 add-narrow c = search needs
 
--- src/reply.rt:26:64
 narrow-requires-3 : tie.Need-narrow-requires-3
 narrow-requires-3 c κs = search needs
 
--- src/reply.rt:26:86
 narrow-requires-4 : tie.Need-narrow-requires-4
 narrow-requires-4 c κs = search needs
 
--- src/reply.rt:26:47
 placed-requires-2 : tie.Need-placed-requires-2
 placed-requires-2 c κs = search needs
 
--- src/reply.rt:26:42
 pack-requires-3 : tie.Need-pack-requires-3
 pack-requires-3 c κs = search needs
 
--- src/reply.rt:28:24
 enum-known-reply-2 : tie.Need-enum-known-reply-2
 enum-known-reply-2 c = search needs
 
--- src/reply.rt:28:41
 carried-requires : tie.Need-carried-requires
 carried-requires c κs = search needs
 
--- src/reply.rt:28:36
 pack-requires-4 : tie.Need-pack-requires-4
 pack-requires-4 c κs = search needs
 
--- src/reply.rt:17:1
 returns : tie.Need-returns
 unfolding answerReply
 returns c =
@@ -95,7 +69,6 @@ returns c =
     let known = says .before in
     c .pack .ensures ∙ ap packed (rw (says .said .ensures, known .before .before .narrow .ensures, known .enum-told .given .1))
 
--- src/reply.rt:17:1
 returns-2 : tie.Need-returns-2
 unfolding answerReply
 returns-2 c =
@@ -105,7 +78,6 @@ returns-2 c =
     c .pack2 .ensures
     ∙ ap packed (rw (says .placed .ensures, says .before .narrow2 .ensures, reply .before .before .narrow .ensures, reply .reply .given .1, place .place .given .1))
 
--- src/reply.rt:17:1
 returns-3 : tie.Need-returns-3
 unfolding answerReply
 returns-3 c =
@@ -117,7 +89,6 @@ returns-3 c =
     c .pack3 .ensures
     ∙ ap packed (rw (says .placed2 .ensures, says .before .narrow4 .ensures, at, reply .before .before .narrow .ensures, reply .reply .given .1, place .place2 .given .1))
 
--- src/reply.rt:17:1
 returns-4 : tie.Need-returns-4
 unfolding answerReply
 returns-4 c =

@@ -8,28 +8,19 @@ use Rattle.host_answer.proofs.Rows.{refusal-row}
 use borrow.Author.Needs.{needs}
 use Rattle.host_answer.proofs.written.wrote.Statement.{statement}
 use Rattle.host_answer.proofs.written.wrote.Tie as tie
-use Rattle.host_answer.proofs.written.wrote.Reads as reads
-use Rattle.host_answer.proofs.written.wrote.Lts as lts
-use Rattle.host_answer.proofs.answer.count.Reads as count-reads
-use Rattle.host_answer.proofs.answer.refuse.Reads as refuse-reads
 
--- src/written.rt:13:24
 enum-known-written : tie.Need-enum-known-written
 enum-known-written c = search needs
 
--- src/written.rt:13:30
 count-requires : tie.Need-count-requires
 count-requires c κs = search needs
 
--- src/written.rt:14:26
 enum-known-written-2 : tie.Need-enum-known-written-2
 enum-known-written-2 c = search needs
 
--- src/written.rt:14:38
 refuse-requires : tie.Need-refuse-requires
 refuse-requires c κs = search needs
 
--- src/written.rt:9:1
 abbrev says : Written → ℕ
 says w = packed (inBytes (answerRow (writtenRow w)))
 
@@ -37,7 +28,6 @@ returns : tie.Need-returns
 unfolding writtenRow answerRow
 returns c = c .count .ensures ∙ sym (ap says (c .before .before .written .given .1))
 
--- src/written.rt:9:1
 returns-2 : tie.Need-returns-2
 unfolding writtenRow
 returns-2 c =
