@@ -39,7 +39,13 @@ returns c =
     let start = c .before .before .before .before .before .before .before in
     let x = start .args .x in
     let f = fits start in
-    rw (signed-same w16 (x .voltage) (lit≤ tt) (f .0), signed-same w16 (x .current) (lit≤ tt) (f .1), toZ-pos w32 (x .«capacity_used» % 2 ^ 24) (f .2), toZ-pos w32 (x .remaining) (f .3), toZ-pos w32 (x .id) (f .4))
+    rw (
+      signed-same w16 (x .voltage) (lit≤ tt) (f .0),
+      signed-same w16 (x .current) (lit≤ tt) (f .1),
+      toZ-pos w32 (x .«capacity_used» % 2 ^ 24) (f .2),
+      toZ-pos w32 (x .remaining) (f .3),
+      toZ-pos w32 (x .id) (f .4),
+    )
 
 pub battery-values-spec : {M : Type 1} → statement M
 battery-values-spec = tie.close (tie.spec cast-t2 cast-t3 cast-t5 cast-t6 cast-t7 returns)

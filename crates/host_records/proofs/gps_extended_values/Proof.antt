@@ -67,7 +67,20 @@ returns c =
     let start = c .before .before .before .before .before .before .before .before .before .before .before .before .before .before .before .before .before .before .before .before in
     let x = start .args .x in
     let f = fits start in
-    rw (toZ-pos w32 (x .«fix_type») (f .0), signed-same w16 (x .«n_speed») (lit≤ tt) (f .1), signed-same w16 (x .«e_speed») (lit≤ tt) (f .2), signed-same w16 (x .«v_speed») (lit≤ tt) (f .3), signed-same w16 (x .«h_speed_acc») (lit≤ tt) (f .4), signed-same w16 (x .«track_acc») (lit≤ tt) (f .5), signed-same w16 (x .«alt_ellipsoid») (lit≤ tt) (f .6), signed-same w16 (x .«h_acc») (lit≤ tt) (f .7), signed-same w16 (x .«v_acc») (lit≤ tt) (f .8), toZ-pos w32 (x .reserved) (f .9), toZ-pos w32 (x .«h_dop») (f .10), toZ-pos w32 (x .«v_dop») (f .11))
+    rw (
+      toZ-pos w32 (x .«fix_type») (f .0),
+      signed-same w16 (x .«n_speed») (lit≤ tt) (f .1),
+      signed-same w16 (x .«e_speed») (lit≤ tt) (f .2),
+      signed-same w16 (x .«v_speed») (lit≤ tt) (f .3),
+      signed-same w16 (x .«h_speed_acc») (lit≤ tt) (f .4),
+      signed-same w16 (x .«track_acc») (lit≤ tt) (f .5),
+      signed-same w16 (x .«alt_ellipsoid») (lit≤ tt) (f .6),
+      signed-same w16 (x .«h_acc») (lit≤ tt) (f .7),
+      signed-same w16 (x .«v_acc») (lit≤ tt) (f .8),
+      toZ-pos w32 (x .reserved) (f .9),
+      toZ-pos w32 (x .«h_dop») (f .10),
+      toZ-pos w32 (x .«v_dop») (f .11),
+    )
 
 pub gps-extended-values-spec : {M : Type 1} → statement M
 gps-extended-values-spec =

@@ -35,7 +35,14 @@ returns c =
     let start = c .before .before .before .before .before in
     let x = start .args .x in
     let f = fits start in
-    rw (toZ-ofZ w32 (x .latitude) (f .0), toZ-ofZ w32 (x .longitude) (f .1), toZ-pos w32 (x .groundspeed) (f .2), toZ-pos w32 (x .heading) (f .3), toZ-pos w32 (x .altitude) (f .4), toZ-pos w32 (x .satellites) (f .5))
+    rw (
+      toZ-ofZ w32 (x .latitude) (f .0),
+      toZ-ofZ w32 (x .longitude) (f .1),
+      toZ-pos w32 (x .groundspeed) (f .2),
+      toZ-pos w32 (x .heading) (f .3),
+      toZ-pos w32 (x .altitude) (f .4),
+      toZ-pos w32 (x .satellites) (f .5),
+    )
 
 pub gps-values-spec : {M : Type 1} → statement M
 gps-values-spec = tie.close (tie.spec cast-t2 cast-t3 cast-t4 cast-t5 returns)

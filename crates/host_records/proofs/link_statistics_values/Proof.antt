@@ -59,7 +59,18 @@ returns c =
     let start = c .before .before .before .before .before .before .before .before .before .before .before .before in
     let x = start .args .x in
     let f = fits start in
-    rw (toZ-pos w32 (x .«uplink_rssi_1») (f .0), toZ-pos w32 (x .«uplink_rssi_2») (f .1), toZ-pos w32 (x .«uplink_link_quality») (f .2), signed-same w8 (x .«uplink_snr») (lit≤ tt) (f .3), toZ-pos w32 (x .«active_antenna») (f .4), toZ-pos w32 (x .«rf_mode») (f .5), toZ-pos w32 (x .«uplink_tx_power») (f .6), toZ-pos w32 (x .«downlink_rssi») (f .7), toZ-pos w32 (x .«downlink_link_quality») (f .8), signed-same w8 (x .«downlink_snr») (lit≤ tt) (f .9))
+    rw (
+      toZ-pos w32 (x .«uplink_rssi_1») (f .0),
+      toZ-pos w32 (x .«uplink_rssi_2») (f .1),
+      toZ-pos w32 (x .«uplink_link_quality») (f .2),
+      signed-same w8 (x .«uplink_snr») (lit≤ tt) (f .3),
+      toZ-pos w32 (x .«active_antenna») (f .4),
+      toZ-pos w32 (x .«rf_mode») (f .5),
+      toZ-pos w32 (x .«uplink_tx_power») (f .6),
+      toZ-pos w32 (x .«downlink_rssi») (f .7),
+      toZ-pos w32 (x .«downlink_link_quality») (f .8),
+      signed-same w8 (x .«downlink_snr») (lit≤ tt) (f .9),
+    )
 
 pub link-statistics-values-spec : {M : Type 1} → statement M
 link-statistics-values-spec =
