@@ -1,4 +1,4 @@
--- Every case of the table is as document 01 says.
+-- Every case of the table is so.
 -- Assumes nothing.
 use mathlib.Core.Path.{refl}
 use Rattle.numbers.specs.BigEndian.{bytesOf}

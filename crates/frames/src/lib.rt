@@ -54,7 +54,13 @@ pub fn write_rc_channels_packed(buffer: &mut [u8], dest: u8, packet: RcChannelsP
 {
     let mut payload = [0u8; MOST_PAYLOAD];
     let written = packet.to_bytes(&mut payload);
-    write_frame(buffer, dest, RcChannelsPacked::PACKET_TYPE, &payload, written)
+    write_frame(
+        buffer,
+        dest,
+        RcChannelsPacked::PACKET_TYPE,
+        &payload,
+        written,
+    )
 }
 
 pub fn write_gps(buffer: &mut [u8], dest: u8, packet: Gps) -> Written

@@ -1,5 +1,4 @@
--- Document 01, "Record layouts": reading after writing gives the record back, and writing after reading the payload. Both are the laws of every
--- layout. `HoldsAll` says that each number is in the range of its field: the types of the struct's fields have just these ranges.
+-- Reading after writing gives the record back, and writing after reading the payload (RULES 10). Both are the laws of every layout. `HoldsAll` says that each number is in the range of its field: the types of the struct's fields have just these ranges.
 -- Assumes nothing.
 use Prim.Native.Nat.{ℕ}
 use mathlib.Core.List.{List, _++_}

@@ -1,5 +1,5 @@
--- Document 01, "Record layouts", for batteries: reading after writing gives the record back when capacity is below 2^24, and writing after
--- reading the payload, for payloads of 8 bytes and those of 9 whose id is not 0.
+-- Batteries (RULES 10): reading after writing gives the record back where the capacity is below 2^24, and writing after reading the payload, for
+-- payloads of 8 bytes and those of 9 whose id is not 0.
 -- Assumes nothing.
 use Prim.Native.Nat.{ℕ, _≤_, _<_}
 use mathlib.Core.List.{List, [], _∷_, _++_, append-nil}

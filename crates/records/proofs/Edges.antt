@@ -1,4 +1,4 @@
--- Every battery of the table is written as document 01 says, and reads back.
+-- Every battery of the table is written as it says, and reads back.
 -- Assumes nothing.
 use Prim.Native.Nat.{ℕ}
 use mathlib.Core.Path.{_≡_, refl}
