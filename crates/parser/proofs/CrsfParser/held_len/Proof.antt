@@ -35,7 +35,9 @@ use denote.Exit.{yes}
 use Rattle.parser.specs.declared.CrsfParser.{CrsfParser}
 use Rattle.parser.specs.Parser.{heldCount}
 use Rattle.parser.proofs.Structs.{Parser}
-use Rattle.parser.proofs.Walk.{rowOf, valOf, Stands, typed, owns-plain, looks-plain, shuts-plain, returned, proved}
+use Rattle.by_hand.proofs.Structs.{rowOf, valOf, Stands, typed, owns-plain}
+use Rattle.by_hand.proofs.Borrows.{looks-plain, shuts-plain}
+use Rattle.by_hand.proofs.Calls.{returned, proved}
 use Rattle.parser.proofs.held_len as held
 use Rattle.parser.proofs.held_len.Symbol as held-def
 use Rattle.parser.proofs.held_len.Symbol.{name as #by-value}

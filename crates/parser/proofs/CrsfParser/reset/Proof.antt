@@ -33,7 +33,9 @@ use denote.Triple.Walked.{says, Stays, stay-ref, walkOf, goes-ref, Walks, ends-a
 use Rattle.parser.specs.declared.CrsfParser.{CrsfParser}
 use Rattle.parser.specs.Parser.{resetOf}
 use Rattle.parser.proofs.Structs.{Parser}
-use Rattle.parser.proofs.Walk.{rowOf, valOf, Stands, typed, owns-plain, opens-plain, closes-plain, returned, proved}
+use Rattle.by_hand.proofs.Structs.{rowOf, valOf, Stands, typed, owns-plain}
+use Rattle.by_hand.proofs.Borrows.{opens-plain, closes-plain}
+use Rattle.by_hand.proofs.Calls.{returned, proved}
 use Rattle.parser.proofs.reset as by-value
 use Rattle.parser.proofs.reset.Symbol as by-value-def
 use Rattle.parser.proofs.reset.Symbol.{name as #by-value}
