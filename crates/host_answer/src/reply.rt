@@ -4,6 +4,7 @@ use crate::answer::pack;
 use crate::answer::placed;
 use crate::answer::said;
 use base::narrow;
+use host_state::PLACES;
 use stream::step::Place;
 use stream::step::Replied;
 use stream::step::Reply;
@@ -23,7 +24,7 @@ pub fn answer_call(replied: Replied) -> u64
         Reply::More => pack(said(MORE, taken, 0, 0)),
         Reply::Frame(place) => match place {
             Place::InPiece(len) => pack(placed(taken, 0, 0, narrow(len))),
-            Place::InHeld { at, len } => pack(placed(taken, 1, narrow(at % 256 + 2), narrow(len))),
+            Place::InHeld { at, len } => pack(placed(taken, 1, narrow(at % 256 + PLACES), narrow(len))),
         },
         Reply::Refused(refusal) => pack(carried(refusal, taken)),
     }

@@ -6,7 +6,7 @@ ghost use mathlib.Core.Path.{_≡_};
 ghost use Rattle.writing.specs.Writing.{writtenRow};
 ghost use Rattle.host_answer.specs.Answer.{packed, answerRow, inBytes};
 
-pub fn wrote(written: Written) -> u64
+pub fn answer_written(written: Written) -> u64
     ensures { λ r. ⌜ r ≡ packed (inBytes (answerRow (writtenRow written))) ⌝ }
 {
     match written {

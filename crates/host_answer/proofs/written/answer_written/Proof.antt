@@ -1,4 +1,4 @@
--- `host_answer::written::wrote` meets its contract. Assumes nothing.
+-- `host_answer::written::answer_written` meets its contract. Assumes nothing.
 use mathlib.Core.Path.{sym, ap, _∙_}
 use Prim.Native.Nat.{ℕ}
 use Rattle.writing.specs.declared.Written.{Written}
@@ -6,8 +6,8 @@ use Rattle.writing.specs.Writing.{writtenRow}
 use Rattle.host_answer.specs.Answer.{packed, answerRow, inBytes}
 use Rattle.host_answer.proofs.Rows.{refusal-row}
 use borrow.Author.Needs.{needs}
-use Rattle.host_answer.proofs.written.wrote.Statement.{statement}
-use Rattle.host_answer.proofs.written.wrote.Tie as tie
+use Rattle.host_answer.proofs.written.answer_written.Statement.{statement}
+use Rattle.host_answer.proofs.written.answer_written.Tie as tie
 
 enum-known-written : tie.Need-enum-known-written
 enum-known-written c = search needs
@@ -34,8 +34,8 @@ returns-2 c =
     let known = c .before .before in
     c .refuse .ensures ∙ sym (ap packed (refusal-row (known .written2 .given .0 .0))) ∙ sym (ap says (known .written2 .given .1))
 
-pub wrote-spec : {M : Type 1} → statement M
-wrote-spec =
+pub answer-written-spec : {M : Type 1} → statement M
+answer-written-spec =
     tie.close
     (tie.spec
     enum-known-written
