@@ -1,11 +1,11 @@
 -- `listing_io::list_part` meets its contract. Assumes nothing.
-use mathlib.Core.Path.{_≡_, refl}
+use mathlib.Core.Path.{_≡_}
 use mathlib.Core.List.{_++_}
 use Prim.Native.Nat.{_-_, _≤_, _<_}
 use native.Mathlib.Omega.{arith}
 use lib.ListN.{length, take, drop, length-take, length-drop}
 use borrow.Rule.Slice.PartMut.{same-len-mid}
-use Rattle.listing.proofs.Drained.{list-fits}
+use Rattle.listing.proofs.Filled.{list-fits}
 use Rattle.listing.proofs.Laws.{still-few}
 use borrow.Author.Needs.{needs}
 use Rattle.listing_io.proofs.list_part.Statement.{statement}
@@ -24,7 +24,7 @@ few : (c : tie.After-list-in)
     → (let a = c .before .before .before .before .before .before .args in let r = c .list-in .result in r .end - r .start < length (a .places .now))
 few c =
     let start = c .before .before .before .before .before .before in
-    still-few refl (c .list-in .kept .0) (start .pre .ordered) (start .pre .inside) (start .pre .few) (c .list-in .ensures)
+    still-few (c .list-in .kept .0) (start .pre .ordered) (start .pre .inside) (start .pre .few) (c .list-in .ensures)
 
 sized : (c : tie.After-list-in) → (let a = c .before .before .before .before .before .before .args in let o = a .out .now in let l = c .list-in .last .1 .1 .1 .1 .0 in
     length (take (a .at) o ++ (l ++ drop (length o - a .at) (drop (a .at) o))) ≡ length o)
