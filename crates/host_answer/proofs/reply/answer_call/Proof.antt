@@ -2,6 +2,7 @@
 use mathlib.Core.Path.{_≡_, ap, _∙_}
 use Prim.Native.Nat.{_+_, _%_}
 use native.Mathlib.Omega.{arith}
+use Rattle.host_state.specs.State.{placesAt}
 use Rattle.host_answer.specs.Answer.{packed}
 use Rattle.host_answer.specs.Reply.{answerReply}
 use borrow.Author.Needs.{needs}
@@ -85,7 +86,7 @@ returns-3 c =
     let offset = says .before .before in
     let place = offset .before .before in
     let reply = place .before .before .before in
-    let at : offset .narrow3 .result ≡ (place .place2 .given .0 .0 + 2) % 256 = omega arith in
+    let at : offset .narrow3 .result ≡ (placesAt + place .place2 .given .0 .0) % 256 = omega arith in
     c .pack3 .ensures
     ∙ ap packed (rw (says .placed2 .ensures, says .before .narrow4 .ensures, at, reply .before .before .narrow .ensures, reply .reply .given .1, place .place2 .given .1))
 
