@@ -51,6 +51,12 @@ module _ (m : ℕ) (held : List ℕ) (few : length held < m) where
   unfolding behindCount
   held-again = ap behindCount reads-count
 
+-- equal forms are those of equal bytes
+pub same-held : (h k : List ℕ) → savedForm h ≡ savedForm k → h ≡ k
+same-held h k e =
+    let m = length h + length k + 1 in
+    sym (held-again m h (omega arith)) ∙ ap (heldOf m) e ∙ held-again m k (omega arith)
+
 -- a form that is accepted is the saved form of its held bytes
 pub form-again : (m : ℕ) (form : List ℕ) → Bytes form → isForm m form ≡ true → savedForm (heldOf m form) ≡ form
 unfolding savedForm

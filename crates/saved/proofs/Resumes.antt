@@ -11,6 +11,7 @@ use Rattle.refusals.specs.Row.{rowOf}
 use Rattle.refusals.specs.declared.Refusal.{Refusal}
 use Rattle.refusals.specs.declared.Refusal.the-variants.{BadState}
 use Rattle.refusals.proofs.Rows.{not-zero}
+use Rattle.reading.specs.Reading.{limit}
 use Rattle.parser.specs.declared.CrsfParser.{CrsfParser}
 use Rattle.saved.specs.Form.{isForm, heldOf}
 use Rattle.saved.specs.declared.form.Restored.{Restored}
@@ -18,19 +19,19 @@ use Rattle.saved.specs.declared.form.Restored.the-variants.{Held, Refuse
 use Rattle.saved.specs.Save.{heldRow, restoredRow, restoreOf}
 use Rattle.saved.specs.Parser.{resumeOf}
 
-module _ (p : CrsfParser) (form : List ℕ) (full : length (p .buffer) ≡ 64) where
+module _ (p : CrsfParser) (form : List ℕ) (full : length (p .buffer) ≡ limit) where
   abbrev Left : Type 0
   Left = List ℕ × List ℕ
 
-  at-good : isForm 64 form ≡ true → restoreOf form (p .buffer) ≡ (heldRow (length (heldOf 64 form)), pasted (p .buffer) 0 (heldOf 64 form))
+  at-good : isForm limit form ≡ true → restoreOf form (p .buffer) ≡ (heldRow (length (heldOf limit form)), pasted (p .buffer) 0 (heldOf limit form))
   unfolding restoreOf
   at-good good = simp (full, good)
 
-  at-bad : isForm 64 form ≡ false → restoreOf form (p .buffer) ≡ (rowOf BadState, p .buffer)
+  at-bad : isForm limit form ≡ false → restoreOf form (p .buffer) ≡ (rowOf BadState, p .buffer)
   unfolding restoreOf
   at-bad bad = simp (full, bad)
 
-  resumed : {row after : List ℕ} → isForm 64 form ≡ true → (row, after) ≡ restoreOf form (p .buffer)
+  resumed : {row after : List ℕ} → isForm limit form ≡ true → (row, after) ≡ restoreOf form (p .buffer)
       → (row, record { buffer = after; start = 0; end = getD row 1 0 }) ≡ resumeOf p form
   unfolding resumeOf
   resumed good e = ap (λ (x : Left). (x .0, record { buffer = x .1; start = 0; end = getD (x .0) 1 0 })) (e ∙ at-good good) ∙ simp good
@@ -39,11 +40,11 @@ module _ (p : CrsfParser) (form : List ℕ) (full : length (p .buffer) ≡ 64) w
       → (restoredRow (Held n), record { buffer = after; start = 0; end = n }) ≡ resumeOf p form
   unfolding restoredRow
   resume-held e =
-      by-test (isForm 64 form) (λ good. resumed good e) (λ bad. absurd (not-zero BadState (sym (ap (λ (x : Left). x .0) (e ∙ at-bad bad)))))
+      by-test (isForm limit form) (λ good. resumed good e) (λ bad. absurd (not-zero BadState (sym (ap (λ (x : Left). x .0) (e ∙ at-bad bad)))))
 
   pub resume-refused : (r : Refusal) {after : List ℕ} → (restoredRow (Refused r), after) ≡ restoreOf form (p .buffer)
       → (restoredRow (Refused r), p) ≡ resumeOf p form
   unfolding restoredRow resumeOf
   resume-refused r e =
-      by-test (isForm 64 form) (λ good. absurd (not-zero r (ap (λ (x : Left). x .0) (e ∙ at-good good))))
+      by-test (isForm limit form) (λ good. absurd (not-zero r (ap (λ (x : Left). x .0) (e ∙ at-good good))))
       (λ bad. simp bad (ap (λ (x : Left). (x .0, p)) (e ∙ at-bad bad)))

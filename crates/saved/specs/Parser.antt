@@ -7,6 +7,7 @@ use Rattle.base.specs.Choice.{if_then_else_}
 use Rattle.base.specs.Parts.{pasted}
 use Rattle.refusals.specs.Row.{rowOf}
 use Rattle.refusals.specs.declared.Refusal.the-variants.{BadState}
+use Rattle.reading.specs.Reading.{limit}
 use Rattle.parser.specs.declared.CrsfParser.{CrsfParser}
 use Rattle.saved.specs.Form.{isForm, heldOf}
 use Rattle.saved.specs.Save.{heldRow}
@@ -14,7 +15,7 @@ use Rattle.saved.specs.Save.{heldRow}
 -- the row, and the parser afterwards
 unfoldable pub resumeOf : CrsfParser → List ℕ → List ℕ × CrsfParser
 resumeOf p form =
-    let held = heldOf 64 form in
-    if isForm 64 form
+    let held = heldOf limit form in
+    if isForm limit form
     then (heldRow (length held), record { buffer = pasted (p .buffer) 0 held; start = 0; end = length held })
     else (rowOf BadState, p)
