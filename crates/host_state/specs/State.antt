@@ -9,8 +9,11 @@ use Rattle.reading.specs.Reading.{limit}
 use Rattle.stream.specs.Places.{heldIn}
 use Rattle.stream.specs.Step.{isSpan}
 
+abbrev pub placesAt : ℕ
+placesAt = 2
+
 abbrev pub size : ℕ
-size = 2 + limit
+size = placesAt + limit
 
 abbrev pub stateOf : ℕ → ℕ → List ℕ → List ℕ
 stateOf start end places = start ∷ end ∷ places
@@ -22,7 +25,7 @@ abbrev pub endIn : List ℕ → ℕ
 endIn state = getD state 1 0
 
 abbrev pub placesIn : List ℕ → List ℕ
-placesIn state = drop 2 state
+placesIn state = drop placesAt state
 
 abbrev pub heldBy : List ℕ → List ℕ
 heldBy state = heldIn (placesIn state) (startIn state) (endIn state)
