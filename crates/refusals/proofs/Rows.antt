@@ -13,7 +13,7 @@ use Rattle.refusals.specs.declared.Refusal.the-variants.{InvalidSync, In
 use Rattle.refusals.specs.Row.{rowOf, numberOf}
 
 -- the refusal that a row is of
-abbrev refusalOf : List ℕ → Refusal
+abbrev pub refusalOf : List ℕ → Refusal
 refusalOf row =
     if eqb (getD row 0 0) 1 then InvalidSync (getD row 1 0) else
     if eqb (getD row 0 0) 2 then InvalidPacketLength (getD row 1 0) else
@@ -24,7 +24,7 @@ refusalOf row =
     if eqb (getD row 0 0) 7 then BadAddress else
     BadState
 
-back : (r : Refusal) → refusalOf (rowOf r) ≡ r
+pub back : (r : Refusal) → refusalOf (rowOf r) ≡ r
 back (InvalidSync byte) = refl
 back (InvalidPacketLength length) = refl
 back (InvalidCrc calculated carried) = refl
