@@ -1,5 +1,5 @@
--- `Writes`: the code's two writes as one. `Forms`: what the tests of a span and of a form say. `Laws`: what the saved form is for. `Resumes`: a restore by value. `Rows`: what a restore says
--- is known by its row. `Unique`: one answer.
+-- `Writes`: the code's two writes as one. `Forms`: what the tests of a span and of a form say. `Laws`: what the saved form is for.
+-- `Resumes`: a restore by value. `Rows`: what a restore says is known by its row. `Unique`: one answer.
 pub mod Writes
 pub mod Forms
 pub mod Laws
