@@ -1,3 +1,4 @@
 pub mod Form
 pub mod Save
 pub mod Parser
+pub mod Lent

@@ -1,5 +1,6 @@
 // The saved form of a parser: what it holds, written so that a later run goes on where this one was.
 pub mod form;
+pub mod lent;
 
 use form::Restored;
 use form::restore_in;
