@@ -1,4 +1,4 @@
--- The host's state as bytes (RULES 14): start, end, then as many places as the limit. Only here it is said where these stand, and how many bytes
+-- The host's state as bytes (RULES 14.1): start, end, then as many places as the limit. Only here it is said where these stand, and how many bytes
 -- that is.
 -- Assumes nothing.
 use Prim.Native.Nat.{ℕ, _+_}

@@ -1,5 +1,5 @@
--- What the saved form is for (RULES 9): saving then restoring gives the same held bytes; equal held bytes mean equal forms; a form is accepted
--- exactly if it is the saved form of some bytes, fewer than the limit; and a history goes on across a save and a restore (RULES 7).
+-- What the saved form is for (RULES 9.6, 9.7): saving then restoring gives the same held bytes; equal held bytes mean equal forms; a form is accepted
+-- exactly if it is the saved form of some bytes, fewer than the limit; and a history goes on across a save and a restore (RULES 7.3).
 -- Assumes nothing.
 use mathlib.Core.Path.{_≡_, refl, sym, ap, ap₂, _∙_, subst}
 use mathlib.Core.Bool.{true, false, _&&_}
