@@ -1,11 +1,13 @@
 -- One walk for every function of the form
 --     fn g(p: P, input: &[u8]) -> S { let mut q = p; let second = f(&mut q, input); S { first: q, second } }
--- where f is the lent form (`Forms.antt`): ψ is what f promises, and φ what g promises of its result. The callers of g are proved by the prover and not by hand, for no lent struct is among its own parameters.
+-- where f is the lent form (`Forms.antt`): ψ is what f promises, and φ what g promises of its result. The callers of g are proved by the prover and
+-- not by hand, for no lent struct is among its own parameters.
 --     body            g's MIR
 --     handed-back     g meets its contract, if f meets its own and ψ gives φ
--- The struct is copied into a local, which is lent to f for a lifetime that is made for the call, is back at the last value that f promises, and goes into the result. The slice is Copy: one copy goes to the callee, and one is kept for the exit.
+-- The struct is copied into a local, which is lent to f for a lifetime that is made for the call, is back at the last value that f promises, and
+-- goes into the result. The slice is Copy: one copy goes to the callee, and one is kept for the exit.
 -- Assumes nothing.
-use mathlib.Core.Path.{_≡_, refl, sym, subst}
+use mathlib.Core.Path.{refl, subst}
 use Prim.Native.Nat.{ℕ}
 use mathlib.Core.List.{[], _∷_, List}
 use lib.Dec.{T as Holds}
@@ -54,7 +56,8 @@ module _ (S P : PlainStruct) (R : Plain) (two : Pair S P R) where
     lifetimes = 1;
     outlives = [];
     params = 2;
-    locals = local (pairMir S P R two) valueLocal ∷ local (mirOf P) valueLocal ∷ local (sliceTy (tyRef (named 0) imm (tyInt w8))) valueLocal ∷ local (mirOf P) memorySlot ∷ local (result.mirOf R) valueLocal ∷ local (tyRef erased mut (pointee (rowOf P .written))) valueLocal ∷ local (mirOf P) valueLocal ∷ [];
+    locals = local (pairMir S P R two) valueLocal ∷ local (mirOf P) valueLocal ∷ local (sliceTy (tyRef (named 0) imm (tyInt w8))) valueLocal
+        ∷ local (mirOf P) memorySlot ∷ local (result.mirOf R) valueLocal ∷ local (tyRef erased mut (pointee (rowOf P .written))) valueLocal ∷ local (mirOf P) valueLocal ∷ [];
     body = seq (assign (place 3 []) (rvOpd (copy (place 1 []))))
         (seq (assign (place 5 []) (addrOf (place 3 [])))
         (seq (call f (copy (place 5 []) ∷ copy (place 2 []) ∷ []) (place 4 []))
@@ -72,7 +75,9 @@ module _ (S P : PlainStruct) (R : Plain) (two : Pair S P R) where
 abbrev stayed : (S P : PlainStruct) → Stays (value-ended S P .signature .params) (value-ended S P .kept)
 stayed S P = (stay-none (λ _. rowOf P) yes, (stay-none-slice (0 ∷ []) tt (plain (λ _. u8)) yes, tt))
 
-module _ (S P : PlainStruct) (R : Plain) (two : Pair S P R) (φ : P .type .D → List ℕ → S .type .D → Type 0) (ψ : P .type .D → List ℕ → P .type .D → R .row .Denot → Type 0) (link : (h : P .type .D) (s : List ℕ) (p : P .type .D) (r : R .row .Denot) → ψ h s p r → φ h s (two .both p r)) where
+module _ (S P : PlainStruct) (R : Plain) (two : Pair S P R) (φ : P .type .D → List ℕ → S .type .D → Type 0)
+    (ψ : P .type .D → List ℕ → P .type .D → R .row .Denot → Type 0)
+    (link : (h : P .type .D) (s : List ℕ) (p : P .type .D) (r : R .row .Denot) → ψ h s p r → φ h s (two .both p r)) where
   module _ {M : Type 1} (𝓤 : URA M) (H : Heap 𝓤) (A : Atoms 𝓤) (W : Given 𝓤 H A) (κ : Lft) (q : Share) (h : P .type .D) (s : Slice) where
     abbrev x : P .type .D × (Slice × Unit {0})
     x = (h, (s, tt))

@@ -3,9 +3,10 @@
 -- where g is the form by value (`Forms.antt`): φ is what g promises of its result, and ψ what f promises.
 --     body         f's MIR
 --     in-place     f meets its contract, if g meets its own and φ gives ψ
--- The borrow is opened, the struct is copied out of its cell whole, g is called on the copy and the slice, the new struct is stored over the old one, and the borrow is closed at it. The slice is Copy: one copy goes to the callee, and one is kept for the exit.
+-- The borrow is opened, the struct is copied out of its cell whole, g is called on the copy and the slice, the new struct is stored over the old
+-- one, and the borrow is closed at it. The slice is Copy: one copy goes to the callee, and one is kept for the exit.
 -- Assumes nothing.
-use mathlib.Core.Path.{_≡_, refl, _∙_, subst}
+use mathlib.Core.Path.{refl, _∙_, subst}
 use Prim.Native.Nat.{ℕ}
 use mathlib.Core.List.{[], _∷_, List}
 use lib.Dec.{T as Holds}
@@ -54,7 +55,8 @@ module _ (S P : PlainStruct) (R : Plain) (two : Pair S P R) where
     lifetimes = 2;
     outlives = [];
     params = 2;
-    locals = local (result.mirOf R) valueLocal ∷ local (tyRef (named 0) mut (pointee (rowOf P .written))) valueLocal ∷ local (sliceTy (tyRef (named 1) imm (tyInt w8))) valueLocal ∷ local (pairMir S P R two) valueLocal ∷ local (mirOf P) valueLocal ∷ [];
+    locals = local (result.mirOf R) valueLocal ∷ local (tyRef (named 0) mut (pointee (rowOf P .written))) valueLocal
+        ∷ local (sliceTy (tyRef (named 1) imm (tyInt w8))) valueLocal ∷ local (pairMir S P R two) valueLocal ∷ local (mirOf P) valueLocal ∷ [];
     body = seq (assign (place 4 []) (rvOpd (copy (place 1 (deref (mirOf P) ∷ [])))))
         (seq (call g (copy (place 4 []) ∷ copy (place 2 []) ∷ []) (place 3 []))
         (seq (assign (place 1 (deref (mirOf P) ∷ [])) (rvOpd (copy (place 3 (field 0 ∷ [])))))
@@ -64,7 +66,9 @@ module _ (S P : PlainStruct) (R : Plain) (two : Pair S P R) where
 abbrev stayed : (P : PlainStruct) (R : Plain) → Stays (lent-ended P R .signature .params) (lent-ended P R .kept)
 stayed P R = (stay-ref (0 ∷ []) tt (plain (λ _. rowOf P)), (stay-none-slice (1 ∷ []) tt (plain (λ _. u8)) yes, tt))
 
-module _ (S P : PlainStruct) (R : Plain) (two : Pair S P R) (φ : P .type .D → List ℕ → S .type .D → Type 0) (ψ : P .type .D → List ℕ → P .type .D → R .row .Denot → Type 0) (link : (h : P .type .D) (s : List ℕ) (r : S .type .D) → φ h s r → ψ h s (two .first r) (two .second r)) where
+module _ (S P : PlainStruct) (R : Plain) (two : Pair S P R) (φ : P .type .D → List ℕ → S .type .D → Type 0)
+    (ψ : P .type .D → List ℕ → P .type .D → R .row .Denot → Type 0)
+    (link : (h : P .type .D) (s : List ℕ) (r : S .type .D) → φ h s r → ψ h s (two .first r) (two .second r)) where
   module _ {M : Type 1} (𝓤 : URA M) (H : Heap 𝓤) (A : Atoms 𝓤) (W : Given 𝓤 H A) (κ κ′ : Lft) (q q′ : Share) (b o : ℕ) (γ : GName) (h : P .type .D) (s : Slice) where
     abbrev x : RefT (P .type .D) × (Slice × Unit {0})
     x = (record { ptr = (b, o); name = γ; now = h }, (s, tt))

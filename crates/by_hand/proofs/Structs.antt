@@ -15,7 +15,7 @@ use prog.Wp.{Heap}
 use ghost.Atoms.{Atoms}
 use types.Kit.{Given, Item, Goal, Step, ‵}
 use denote.RattleType.{RattleType}
-use denote.Exit.{Kept, Exit, unchanged, Last, left}
+use denote.Exit.{Kept, Exit, Last, left}
 use denote.Laws.{Is}
 use denote.Memory.{lone}
 use denote.Steps.{only, owned}

@@ -7,7 +7,7 @@ use Prim.Native.Nat.{ℕ}
 use lib.IntN.{ℤ}
 use Rattle.reading.specs.Edges as reading
 use Rattle.reading.specs.Edges.{shown}
-use Rattle.reading.specs.Reading.{reading}
+use Rattle.reading.specs.Reading.{limit, reading}
 use Rattle.writing.specs.Writing.{bytes}
 use Rattle.channels.specs.Channels.{channelsImage}
 use Rattle.channels.specs.Edges as channels
@@ -30,7 +30,7 @@ pub data Case : Type 0 where
 
 -- that it is so
 abbrev pub Holds : Case → Type 0
-Holds (gives e) = shown (reading 64 (e .input)) ≡ e .gives
+Holds (gives e) = shown (reading limit (e .input)) ≡ e .gives
 Holds (carries e) = channelsImage (e .channels) ≡ bytes (e .gives)
 Holds (packs (d, word)) = packOf d ≡ word
 Holds (writes (battery, payload)) = batteryImage battery ≡ bytes payload

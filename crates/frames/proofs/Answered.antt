@@ -54,7 +54,9 @@ goes-in dest (Wrote n) room whole address e =
     (below room (n + 4))
 goes-in dest (Refused r) room whole address e = let z : _≡_ {A = ℕ} 0 1 = cc in absurd (omega arith)
 
-module _ (dest : ℕ) (written : Written) (room : ℕ) {answer : Written} {whole : ℕ} (so : answer ≡ answerFor dest written room) (wrote : answer ≡ Wrote whole) where
+module _
+    (dest : ℕ) (written : Written) (room : ℕ) {answer : Written} {whole : ℕ} (so : answer ≡ answerFor dest written room)
+    (wrote : answer ≡ Wrote whole) where
   pub goes : Goes dest written room
   goes =
       by-test (listed dest)
@@ -93,7 +95,8 @@ module _ (dest kind : ℕ) (b : List ℕ) where
   unfolding framedBody
   refused-in (Wrote n) (bytes pay) {r} long e =
       ⊎-elim
-      (λ (few : length b < n + 4). as-refused (framedBody dest kind (bytes pay)) (sym e ∙ too-short n (length b) few) (short pay n dest kind long b few))
+      (λ (few : length b < n + 4).
+      as-refused (framedBody dest kind (bytes pay)) (sym e ∙ too-short n (length b) few) (short pay n dest kind long b few))
       (λ (enough : n + 4 ≤ length b). let is = fits n (length b) enough in let z : _≡_ {A = ℕ} 0 1 = cc in absurd (omega arith))
       (below (length b) (n + 4))
   refused-in (Wrote n) (refused s) none e = absurd none
@@ -131,6 +134,7 @@ module _
   record-written made f = written-frame (in-place b pay (sizeIn written) long (goes dest written (length b) so wrote .enough) made) f
 
 -- what the record's own writer left in a payload's places
-pub image-wrote : (written : Written) (places : List ℕ) → written ≡ Wrote (sizeIn written) → imageIn written places ≡ bytes (take (sizeIn written) places)
+pub image-wrote : (written : Written) (places : List ℕ) → written ≡ Wrote (sizeIn written)
+    → imageIn written places ≡ bytes (take (sizeIn written) places)
 unfolding imageIn
 image-wrote written places e = ap (λ (w : Written). imageIn w places) e

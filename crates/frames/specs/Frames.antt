@@ -1,13 +1,14 @@
 -- Whole frames (RULES 4): address, length, type, payload, check byte. Their writers refuse a bad address first, then what the record's own writer
 -- refuses, then a buffer that is too short (RULES 2).
 -- Assumes nothing.
-use Prim.Native.Nat.{ℕ, _+_, _≤_}
+use Prim.Native.Nat.{ℕ, _+_, _-_, _≤_}
 use mathlib.Core.List.{List, _∷_}
 use lib.Dec.{leb}
 use lib.ListN.{length, take}
 use Rattle.base.specs.Choice.{if_then_else_}
 use Rattle.packets.specs.Listed.{listed}
 use Rattle.reading.specs.Frame.{frame}
+use Rattle.reading.specs.Reading.{limit}
 use Rattle.refusals.specs.declared.Refusal.the-variants.{BufferOverflow, BadAddress}
 use Rattle.writing.specs.Writing.{Image, bytes, refused}
 use Rattle.writing.specs.declared.Written.{Written}
@@ -29,7 +30,7 @@ abbrev pub overhead : ℕ
 overhead = 4
 
 abbrev pub mostPayload : ℕ
-mostPayload = 60
+mostPayload = limit - overhead
 
 -- what a writer that answered so left in a payload's places
 unfoldable pub imageIn : Written → List ℕ → Image

@@ -17,6 +17,7 @@ use Rattle.refusals.specs.declared.Refusal.the-variants.{BadState}
 use Rattle.refusals.proofs.Rows.{not-zero}
 use Rattle.writing.specs.Writing.{Image, bytes, refused, wroteRow, writeOf}
 use Rattle.reading.specs.Reading.{limit}
+use Rattle.reading.proofs.Frame.{two-heads}
 use Rattle.stream.specs.Places.{heldIn}
 use Rattle.stream.specs.Step.{isSpan, Steps}
 use Rattle.stream.specs.Rows.{rowsOf}
@@ -34,7 +35,7 @@ use Rattle.saved.proofs.Laws.{form-accepted, held-again, restored-holds}
 use Rattle.host_state.specs.State.{size, stateOf, startIn, endIn, placesIn, heldBy, hasSize, isState}
 use Rattle.host_state.specs.Step.{movedIn, StateSteps}
 use Rattle.host_state.specs.Saving.{heldRowOf, resetState, stateImage, restoreState}
-use Rattle.host_state.proofs.States.{sized, has-size, state-size, state-span, is-state, state-bounds, two-heads, places-count}
+use Rattle.host_state.proofs.States.{sized, has-size, state-size, state-span, is-state, state-bounds, places-count}
 
 -- a valid state that holds these bytes
 pub record Holds (s held : List ℕ) : Type 0 where

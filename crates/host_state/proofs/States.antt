@@ -10,6 +10,7 @@ use lib.ListN.{length, take, drop, set, length-append, length-drop, drop-of-leng
 use lib.Seq.{drop-at, length-take-le, take-all}
 use Rattle.base.proofs.Tests.{by-test, told-not}
 use Rattle.reading.specs.Reading.{limit}
+use Rattle.reading.proofs.Frame.{two-heads}
 use Rattle.stream.specs.Step.{isSpan}
 use Rattle.stream.proofs.Spans.{span-bounds}
 use Rattle.host_state.specs.State.{size, stateOf, startIn, endIn, placesIn, hasSize, isState}
@@ -49,11 +50,6 @@ module _ (s : List ℕ) where
 
 -- ---- start, end and places
 
-pub two-heads : (s : List ℕ) → 2 ≤ length s → s ≡ stateOf (startIn s) (endIn s) (placesIn s)
-two-heads [] h = absurd (omega arith)
-two-heads (a ∷ []) h = absurd (omega arith)
-two-heads (a ∷ b ∷ s) h = refl
-
 -- the code's two stores
 pub two-stores : (s : List ℕ) (a b : ℕ) → 2 ≤ length s → set (set s 0 a) 1 b ≡ stateOf a b (placesIn s)
 two-stores [] a b h = absurd (omega arith)
@@ -90,9 +86,9 @@ module _ (s : List ℕ) (fits : length s ≡ size) where
 
   -- nothing was written
   pub written-same : {ys : List ℕ} → ys ≡ placesIn s → written ys ≡ s
-  written-same {ys} e = written-is ys ∙ ap (λ (l : List ℕ). take 2 s ++ l) e ∙ by s (omega arith)
-    where
-      by : (l : List ℕ) → 2 ≤ length l → take 2 l ++ drop 2 l ≡ l
-      by [] h = absurd (omega arith)
-      by (a ∷ []) h = absurd (omega arith)
-      by (a ∷ b ∷ l) h = refl
+  written-same {ys} e =
+      let two : s ≡ stateOf (startIn s) (endIn s) (placesIn s) = two-heads s (omega arith) in
+      written-is ys
+      ∙ ap (λ (l : List ℕ). take 2 s ++ l) e
+      ∙ ap (λ (l : List ℕ). take 2 l ++ drop 2 l) two
+      ∙ sym two

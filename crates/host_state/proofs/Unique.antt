@@ -13,6 +13,7 @@ use Rattle.base.proofs.Unique.{OneAnswer, same}
 use Rattle.writing.specs.declared.Written.{Written}
 use Rattle.writing.proofs.Rows.{one-write}
 use Rattle.reading.specs.Reading.{limit}
+use Rattle.reading.proofs.Frame.{two-heads}
 use Rattle.stream.specs.Seen.{Seen, ifRefused, seen}
 use Rattle.stream.specs.declared.step.Replied.{Replied}
 use Rattle.stream.proofs.Unique.{one-seen}
@@ -20,7 +21,7 @@ use Rattle.saved.specs.declared.form.Restored.{Restored}
 use Rattle.saved.proofs.Rows.{one-restored, one-restore}
 use Rattle.host_state.specs.State.{size, startIn, endIn, placesIn, hasSize}
 use Rattle.host_state.specs.Step.{movedIn, StateSteps}
-use Rattle.host_state.proofs.States.{sized, two-heads, places-count}
+use Rattle.host_state.proofs.States.{sized, places-count}
 use Rattle.host_state.proofs.is_state.Reads as is-state
 use Rattle.host_state.proofs.step.Reads as step
 use Rattle.host_state.proofs.held.Reads as held

@@ -9,6 +9,7 @@ use Rattle.reading.specs.Reading.{limit}
 use Rattle.stream.specs.Places.{heldIn}
 use Rattle.stream.specs.Step.{isSpan}
 
+-- where the places begin
 abbrev pub placesAt : ℕ
 placesAt = 2
 

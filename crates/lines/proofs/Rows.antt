@@ -11,7 +11,7 @@ use lib.ListN.{length, getD, drop}
 use Rattle.base.specs.Choice.{if_then_else_}
 use Rattle.reading.specs.Answer.{Answer, InvalidSync, InvalidPacketLength, InvalidCrc, Frame, row}
 use Rattle.lines.specs.Digits.{hexDigit, hex}
-use Rattle.lines.specs.Lines.{syncWord, lengthWord, crcWord, lineEnd, spacedHex, frameLine, byteLine, crcLine, line, refusalLine}
+use Rattle.lines.specs.Lines.{syncWord, lengthWord, crcWord, lineEnd, frameLine, byteLine, crcLine, line, refusalLine}
 
 -- ---- The line of an answer is that of its row
 

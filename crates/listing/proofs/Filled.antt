@@ -11,8 +11,8 @@ use lib.Seq.{drop-drop}
 use Rattle.base.specs.Parts.{pasted}
 use Rattle.base.proofs.Tests.{by-test}
 use Rattle.reading.specs.Answer.{Answer}
-use Rattle.reading.specs.Reading.{First, says}
-use Rattle.reading.specs.Call.{Call, call}
+use Rattle.reading.specs.Reading.{First}
+use Rattle.reading.specs.Call.{call}
 use Rattle.reading.specs.History.{answered}
 use Rattle.refusals.specs.declared.Refusal.the-variants.{BadState}
 use Rattle.stream.specs.Places.{heldIn}

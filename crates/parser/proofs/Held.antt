@@ -49,7 +49,8 @@ module _ {p : CrsfParser} {input : List ℕ} {r : Stepped} (good : isState p ≡
   short e = rw (held-is moves-on) (faithful (offer input (begin (heldBy p))) .short (span-bounds limit (p .start) (p .end) good .0) (asks moves-on e))
 
 -- the same of a lent parser, which is q after the call
-pub lent-short : {p q : CrsfParser} {input : List ℕ} {a : Replied} → isState p ≡ true → Nexts p input (stepped q a) → a .reply ≡ More → length (heldBy q) ≤ limit - 1
+pub lent-short : {p q : CrsfParser} {input : List ℕ} {a : Replied} → isState p ≡ true → Nexts p input (stepped q a) → a .reply ≡ More
+    → length (heldBy q) ≤ limit - 1
 lent-short = short
 
 -- a call takes no more than there is, whatever the state

@@ -1,4 +1,5 @@
--- Reading after writing gives the record back, and writing after reading the payload (RULES 10). Both are the laws of every layout. `HoldsAll` says that each number is in the range of its field: the types of the struct's fields have just these ranges.
+-- Reading after writing gives the record back, and writing after reading the payload (RULES 10). Both are the laws of every layout. `HoldsAll`
+-- says that each number is in the range of its field: the types of the struct's fields have just these ranges.
 -- Assumes nothing.
 use Prim.Native.Nat.{ℕ}
 use mathlib.Core.List.{List, _++_}
@@ -24,11 +25,13 @@ pub gps-long : (x : Gps) → length (recordBytes gpsLayout (gpsValues x)) ≡ si
 unfolding gpsValues
 gps-long x = length-recordBytes gpsLayout (gpsValues x) (lit≤ tt)
 
-pub gps-read-written : (x : Gps) (after : List ℕ) → HoldsAll gpsLayout (gpsValues x) → gpsDecoded (gpsRead.the-variants.Record x) ≡ gpsRead (recordBytes gpsLayout (gpsValues x) ++ after)
+pub gps-read-written : (x : Gps) (after : List ℕ) → HoldsAll gpsLayout (gpsValues x)
+    → gpsDecoded (gpsRead.the-variants.Record x) ≡ gpsRead (recordBytes gpsLayout (gpsValues x) ++ after)
 unfolding gpsDecoded
 gps-read-written x after h = sym (readAs-written gpsLayout decoded tooShort (gpsValues x) after h)
 
-pub gps-written-read : (x : Gps) (payload : List ℕ) → Bytes payload → length payload ≡ sizeOf gpsLayout → gpsDecoded (gpsRead.the-variants.Record x) ≡ gpsRead payload → gpsImage x ≡ bytes payload
+pub gps-written-read : (x : Gps) (payload : List ℕ) → Bytes payload → length payload ≡ sizeOf gpsLayout
+    → gpsDecoded (gpsRead.the-variants.Record x) ≡ gpsRead payload → gpsImage x ≡ bytes payload
 unfolding gpsDecoded
 gps-written-read x payload b e r = ap bytes (written-back gpsLayout (gpsValues x) payload b e r)
 
@@ -38,10 +41,12 @@ pub gps-extended-long : (x : GpsExtended) → length (recordBytes gpsExtendedLay
 unfolding gpsExtendedValues
 gps-extended-long x = length-recordBytes gpsExtendedLayout (gpsExtendedValues x) (lit≤ tt)
 
-pub gps-extended-read-written : (x : GpsExtended) (after : List ℕ) → HoldsAll gpsExtendedLayout (gpsExtendedValues x) → gpsExtendedDecoded (gpsExtendedRead.the-variants.Record x) ≡ gpsExtendedRead (recordBytes gpsExtendedLayout (gpsExtendedValues x) ++ after)
+pub gps-extended-read-written : (x : GpsExtended) (after : List ℕ) → HoldsAll gpsExtendedLayout (gpsExtendedValues x)
+    → gpsExtendedDecoded (gpsExtendedRead.the-variants.Record x) ≡ gpsExtendedRead (recordBytes gpsExtendedLayout (gpsExtendedValues x) ++ after)
 unfolding gpsExtendedDecoded
 gps-extended-read-written x after h = sym (readAs-written gpsExtendedLayout decoded tooShort (gpsExtendedValues x) after h)
 
-pub gps-extended-written-read : (x : GpsExtended) (payload : List ℕ) → Bytes payload → length payload ≡ sizeOf gpsExtendedLayout → gpsExtendedDecoded (gpsExtendedRead.the-variants.Record x) ≡ gpsExtendedRead payload → gpsExtendedImage x ≡ bytes payload
+pub gps-extended-written-read : (x : GpsExtended) (payload : List ℕ) → Bytes payload → length payload ≡ sizeOf gpsExtendedLayout
+    → gpsExtendedDecoded (gpsExtendedRead.the-variants.Record x) ≡ gpsExtendedRead payload → gpsExtendedImage x ≡ bytes payload
 unfolding gpsExtendedDecoded
 gps-extended-written-read x payload b e r = ap bytes (written-back gpsExtendedLayout (gpsExtendedValues x) payload b e r)

@@ -15,11 +15,14 @@ abbrev pub gpsExtendedType : ℕ
 gpsExtendedType = 0x06
 
 abbrev pub gpsExtendedLayout : List Field
-gpsExtendedLayout = unsigned 1 ∷ signed 2 ∷ signed 2 ∷ signed 2 ∷ signed 2 ∷ signed 2 ∷ signed 2 ∷ signed 2 ∷ signed 2 ∷ unsigned 1 ∷ unsigned 1 ∷ unsigned 1 ∷ []
+gpsExtendedLayout =
+    unsigned 1 ∷ signed 2 ∷ signed 2 ∷ signed 2 ∷ signed 2 ∷ signed 2
+    ∷ signed 2 ∷ signed 2 ∷ signed 2 ∷ unsigned 1 ∷ unsigned 1 ∷ unsigned 1 ∷ []
 
 unfoldable pub gpsExtendedValues : GpsExtended → List ℤ
 gpsExtendedValues x =
-    pos (x .«fix_type») ∷ x .«n_speed» ∷ x .«e_speed» ∷ x .«v_speed» ∷ x .«h_speed_acc» ∷ x .«track_acc» ∷ x .«alt_ellipsoid» ∷ x .«h_acc» ∷ x .«v_acc» ∷ pos (x .reserved) ∷ pos (x .«h_dop») ∷ pos (x .«v_dop») ∷ []
+    pos (x .«fix_type») ∷ x .«n_speed» ∷ x .«e_speed» ∷ x .«v_speed» ∷ x .«h_speed_acc» ∷ x .«track_acc»
+    ∷ x .«alt_ellipsoid» ∷ x .«h_acc» ∷ x .«v_acc» ∷ pos (x .reserved) ∷ pos (x .«h_dop») ∷ pos (x .«v_dop») ∷ []
 
 unfoldable pub gpsExtendedDecoded : GpsExtendedRead → Decoded
 gpsExtendedDecoded (Record x) = decoded (gpsExtendedValues x)

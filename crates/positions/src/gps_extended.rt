@@ -57,7 +57,11 @@ impl GpsExtended {
         h_dop: u8,
         v_dop: u8,
     ) -> Self
-        ensures { λ r. ⌜ gpsExtendedValues r ≡ pos «fix_type» ∷ «n_speed» ∷ «e_speed» ∷ «v_speed» ∷ «h_speed_acc» ∷ «track_acc» ∷ «alt_ellipsoid» ∷ «h_acc» ∷ «v_acc» ∷ pos reserved ∷ pos «h_dop» ∷ pos «v_dop» ∷ [] ⌝ }
+        ensures { λ r. ⌜
+            gpsExtendedValues r
+            ≡ pos «fix_type» ∷ «n_speed» ∷ «e_speed» ∷ «v_speed» ∷ «h_speed_acc» ∷ «track_acc»
+            ∷ «alt_ellipsoid» ∷ «h_acc» ∷ «v_acc» ∷ pos reserved ∷ pos «h_dop» ∷ pos «v_dop» ∷ []
+            ⌝ }
     {
         Self {
             fix_type,
@@ -112,7 +116,9 @@ impl GpsExtended {
     // The first six fields, bytes 0 to 10.
     fn put_speeds(self, buffer: &mut [u8])
         requires { ⌜ sizeOf gpsExtendedLayout ≤ length (now buffer) ⌝ }
-        ensures { λ _. ⌜ now (buffer .exit) ≡ pasted (now (buffer .entry)) 0 (recordBytes (take 6 gpsExtendedLayout) (take 6 (gpsExtendedValues self))) ⌝ }
+        ensures { λ _. ⌜
+            now (buffer .exit)
+            ≡ pasted (now (buffer .entry)) 0 (recordBytes (take 6 gpsExtendedLayout) (take 6 (gpsExtendedValues self))) ⌝ }
     {
         numbers::put_u8(buffer, 0, self.fix_type);
         numbers::put_i16(buffer, 1, self.n_speed);
@@ -125,7 +131,9 @@ impl GpsExtended {
     // The other six, bytes 11 to 19.
     fn put_places(self, buffer: &mut [u8])
         requires { ⌜ sizeOf gpsExtendedLayout ≤ length (now buffer) ⌝ }
-        ensures { λ _. ⌜ now (buffer .exit) ≡ pasted (now (buffer .entry)) 11 (recordBytes (drop 6 gpsExtendedLayout) (drop 6 (gpsExtendedValues self))) ⌝ }
+        ensures { λ _. ⌜
+            now (buffer .exit)
+            ≡ pasted (now (buffer .entry)) 11 (recordBytes (drop 6 gpsExtendedLayout) (drop 6 (gpsExtendedValues self))) ⌝ }
     {
         numbers::put_i16(buffer, 11, self.alt_ellipsoid);
         numbers::put_i16(buffer, 13, self.h_acc);

@@ -1,4 +1,5 @@
--- Reading after writing gives the record back, and writing after reading the payload (RULES 10). Both are the laws of every layout. `HoldsAll` says that each number is in the range of its field: the types of the struct's fields have just these ranges.
+-- Reading after writing gives the record back, and writing after reading the payload (RULES 10). Both are the laws of every layout. `HoldsAll`
+-- says that each number is in the range of its field: the types of the struct's fields have just these ranges.
 -- Assumes nothing.
 use Prim.Native.Nat.{ℕ}
 use mathlib.Core.List.{List, _++_}
@@ -24,11 +25,15 @@ pub link-statistics-long : (x : LinkStatistics) → length (recordBytes linkStat
 unfolding linkStatisticsValues
 link-statistics-long x = length-recordBytes linkStatisticsLayout (linkStatisticsValues x) (lit≤ tt)
 
-pub link-statistics-read-written : (x : LinkStatistics) (after : List ℕ) → HoldsAll linkStatisticsLayout (linkStatisticsValues x) → linkStatisticsDecoded (linkStatisticsRead.the-variants.Record x) ≡ linkStatisticsRead (recordBytes linkStatisticsLayout (linkStatisticsValues x) ++ after)
+pub link-statistics-read-written : (x : LinkStatistics) (after : List ℕ) → HoldsAll linkStatisticsLayout (linkStatisticsValues x)
+    → linkStatisticsDecoded (linkStatisticsRead.the-variants.Record x) ≡ linkStatisticsRead (recordBytes linkStatisticsLayout (linkStatisticsValues x) ++ after)
 unfolding linkStatisticsDecoded
 link-statistics-read-written x after h = sym (readAs-written linkStatisticsLayout decoded tooShort (linkStatisticsValues x) after h)
 
-pub link-statistics-written-read : (x : LinkStatistics) (payload : List ℕ) → Bytes payload → length payload ≡ sizeOf linkStatisticsLayout → linkStatisticsDecoded (linkStatisticsRead.the-variants.Record x) ≡ linkStatisticsRead payload → linkStatisticsImage x ≡ bytes payload
+pub link-statistics-written-read : (x : LinkStatistics) (payload : List ℕ) → Bytes payload
+    → length payload ≡ sizeOf linkStatisticsLayout
+    → linkStatisticsDecoded (linkStatisticsRead.the-variants.Record x) ≡ linkStatisticsRead payload
+    → linkStatisticsImage x ≡ bytes payload
 unfolding linkStatisticsDecoded
 link-statistics-written-read x payload b e r = ap bytes (written-back linkStatisticsLayout (linkStatisticsValues x) payload b e r)
 
@@ -38,10 +43,14 @@ pub baro-altitude-long : (x : BaroAltitude) → length (recordBytes baroAltitude
 unfolding baroAltitudeValues
 baro-altitude-long x = length-recordBytes baroAltitudeLayout (baroAltitudeValues x) (lit≤ tt)
 
-pub baro-altitude-read-written : (x : BaroAltitude) (after : List ℕ) → HoldsAll baroAltitudeLayout (baroAltitudeValues x) → baroAltitudeDecoded (baroAltitudeRead.the-variants.Record x) ≡ baroAltitudeRead (recordBytes baroAltitudeLayout (baroAltitudeValues x) ++ after)
+pub baro-altitude-read-written : (x : BaroAltitude) (after : List ℕ) → HoldsAll baroAltitudeLayout (baroAltitudeValues x)
+    → baroAltitudeDecoded (baroAltitudeRead.the-variants.Record x) ≡ baroAltitudeRead (recordBytes baroAltitudeLayout (baroAltitudeValues x) ++ after)
 unfolding baroAltitudeDecoded
 baro-altitude-read-written x after h = sym (readAs-written baroAltitudeLayout decoded tooShort (baroAltitudeValues x) after h)
 
-pub baro-altitude-written-read : (x : BaroAltitude) (payload : List ℕ) → Bytes payload → length payload ≡ sizeOf baroAltitudeLayout → baroAltitudeDecoded (baroAltitudeRead.the-variants.Record x) ≡ baroAltitudeRead payload → baroAltitudeImage x ≡ bytes payload
+pub baro-altitude-written-read : (x : BaroAltitude) (payload : List ℕ) → Bytes payload
+    → length payload ≡ sizeOf baroAltitudeLayout
+    → baroAltitudeDecoded (baroAltitudeRead.the-variants.Record x) ≡ baroAltitudeRead payload
+    → baroAltitudeImage x ≡ bytes payload
 unfolding baroAltitudeDecoded
 baro-altitude-written-read x payload b e r = ap bytes (written-back baroAltitudeLayout (baroAltitudeValues x) payload b e r)

@@ -15,11 +15,14 @@ abbrev pub linkStatisticsType : ℕ
 linkStatisticsType = 0x14
 
 abbrev pub linkStatisticsLayout : List Field
-linkStatisticsLayout = unsigned 1 ∷ unsigned 1 ∷ unsigned 1 ∷ signed 1 ∷ unsigned 1 ∷ unsigned 1 ∷ unsigned 1 ∷ unsigned 1 ∷ unsigned 1 ∷ signed 1 ∷ []
+linkStatisticsLayout =
+    unsigned 1 ∷ unsigned 1 ∷ unsigned 1 ∷ signed 1 ∷ unsigned 1
+    ∷ unsigned 1 ∷ unsigned 1 ∷ unsigned 1 ∷ unsigned 1 ∷ signed 1 ∷ []
 
 unfoldable pub linkStatisticsValues : LinkStatistics → List ℤ
 linkStatisticsValues x =
-    pos (x .«uplink_rssi_1») ∷ pos (x .«uplink_rssi_2») ∷ pos (x .«uplink_link_quality») ∷ x .«uplink_snr» ∷ pos (x .«active_antenna») ∷ pos (x .«rf_mode») ∷ pos (x .«uplink_tx_power») ∷ pos (x .«downlink_rssi») ∷ pos (x .«downlink_link_quality») ∷ x .«downlink_snr» ∷ []
+    pos (x .«uplink_rssi_1») ∷ pos (x .«uplink_rssi_2») ∷ pos (x .«uplink_link_quality») ∷ x .«uplink_snr» ∷ pos (x .«active_antenna»)
+    ∷ pos (x .«rf_mode») ∷ pos (x .«uplink_tx_power») ∷ pos (x .«downlink_rssi») ∷ pos (x .«downlink_link_quality») ∷ x .«downlink_snr» ∷ []
 
 unfoldable pub linkStatisticsDecoded : LinkStatisticsRead → Decoded
 linkStatisticsDecoded (Record x) = decoded (linkStatisticsValues x)

@@ -51,7 +51,11 @@ impl LinkStatistics {
         downlink_link_quality: u8,
         downlink_snr: i8,
     ) -> Self
-        ensures { λ r. ⌜ linkStatisticsValues r ≡ pos «uplink_rssi_1» ∷ pos «uplink_rssi_2» ∷ pos «uplink_link_quality» ∷ «uplink_snr» ∷ pos «active_antenna» ∷ pos «rf_mode» ∷ pos «uplink_tx_power» ∷ pos «downlink_rssi» ∷ pos «downlink_link_quality» ∷ «downlink_snr» ∷ [] ⌝ }
+        ensures { λ r. ⌜
+            linkStatisticsValues r
+            ≡ pos «uplink_rssi_1» ∷ pos «uplink_rssi_2» ∷ pos «uplink_link_quality» ∷ «uplink_snr» ∷ pos «active_antenna»
+            ∷ pos «rf_mode» ∷ pos «uplink_tx_power» ∷ pos «downlink_rssi» ∷ pos «downlink_link_quality» ∷ «downlink_snr» ∷ []
+            ⌝ }
     {
         Self {
             uplink_rssi_1,
@@ -100,7 +104,9 @@ impl LinkStatistics {
     // The first five fields, bytes 0 to 4.
     fn put_first_five(self, buffer: &mut [u8])
         requires { ⌜ sizeOf linkStatisticsLayout ≤ length (now buffer) ⌝ }
-        ensures { λ _. ⌜ now (buffer .exit) ≡ pasted (now (buffer .entry)) 0 (recordBytes (take 5 linkStatisticsLayout) (take 5 (linkStatisticsValues self))) ⌝ }
+        ensures { λ _. ⌜
+            now (buffer .exit)
+            ≡ pasted (now (buffer .entry)) 0 (recordBytes (take 5 linkStatisticsLayout) (take 5 (linkStatisticsValues self))) ⌝ }
     {
         numbers::put_u8(buffer, 0, self.uplink_rssi_1);
         numbers::put_u8(buffer, 1, self.uplink_rssi_2);
@@ -112,7 +118,9 @@ impl LinkStatistics {
     // The other five, bytes 5 to 9.
     fn put_other_five(self, buffer: &mut [u8])
         requires { ⌜ sizeOf linkStatisticsLayout ≤ length (now buffer) ⌝ }
-        ensures { λ _. ⌜ now (buffer .exit) ≡ pasted (now (buffer .entry)) 5 (recordBytes (drop 5 linkStatisticsLayout) (drop 5 (linkStatisticsValues self))) ⌝ }
+        ensures { λ _. ⌜
+            now (buffer .exit)
+            ≡ pasted (now (buffer .entry)) 5 (recordBytes (drop 5 linkStatisticsLayout) (drop 5 (linkStatisticsValues self))) ⌝ }
     {
         numbers::put_u8(buffer, 5, self.rf_mode);
         numbers::put_u8(buffer, 6, self.uplink_tx_power);

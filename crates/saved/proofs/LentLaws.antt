@@ -37,7 +37,7 @@ resumes-at q held few = simp (form-accepted limit held few, held-again limit hel
 
 -- what a restored parser is to the one that was saved
 pub record Carried (p q : CrsfParser) (r : Restored) : Type 0 where
-  pub answered : restoredRow r ≡ heldRow (length (heldBy p))
+  pub row : restoredRow r ≡ heldRow (length (heldBy p))
   pub same : heldBy q ≡ heldBy p
   pub state : isState q ≡ true
 
@@ -53,7 +53,7 @@ module _ (p q : CrsfParser) (full : length (p .buffer) ≡ limit) (out : List �
       let e = resumes ∙ ap (resumeOf q) (w .form) ∙ resumes-at q held few in
       let at : q′ ≡ at-front q held = ap (λ (x : Left). x .1) e in
       record {
-        answered = ap (λ (x : Left). x .0) e;
+        row = ap (λ (x : Left). x .0) e;
         same = ap heldBy at ∙ restored-holds (q .buffer) held;
         state = ap isState at ∙ ap₂ _&&_ (le-leb 0 (length held) (omega arith)) (le-leb (length held) limit (omega arith));
       }

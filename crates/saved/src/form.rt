@@ -9,7 +9,7 @@ ghost use Rattle.writing.specs.Writing.{writtenRow, writeOf};
 ghost use Rattle.saved.specs.Form.{isSavable};
 ghost use Rattle.saved.specs.Save.{saveImage, countSize, restoredRow, restoreOf};
 
-// What a restore says: how many bytes are held now, or a refusal.
+// How many bytes are held now, or a refusal: what a restore says.
 pub enum Restored {
     Held(usize),
     Refused(Refusal),

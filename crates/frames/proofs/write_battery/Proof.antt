@@ -18,7 +18,8 @@ Start-of c = c .before .before .before
 abbrev size : tie.After-answer-for → ℕ
 size c = c .before .battery-size .result
 
-go : (c : tie.After-answer) → (let a = Start-of (c .before .before) .args in Goes (a .dest) (Wrote (size (c .before .before))) (length (a .buffer .now)))
+go : (c : tie.After-answer)
+    → (let a = Start-of (c .before .before) .args in Goes (a .dest) (Wrote (size (c .before .before))) (length (a .buffer .now)))
 go c =
     let call = c .before .before in
     let a = Start-of call .args in
@@ -65,15 +66,16 @@ returns c =
     let wrote = record-made .before .before .before in
     let call = wrote .before .before in
     let a = Start-of call .args in
-    record-written (a .dest) batteryType (Wrote (size call)) _ (battery-long (a .packet) ∙ sym (call .before .battery-size .ensures .0)) (a .buffer .now)
-    (call .answer-for .ensures) (wrote .answer .given .1) (record-made .to-bytes .ensures) (framing .seal .ensures)
+    record-written (a .dest) batteryType (Wrote (size call)) _ (battery-long (a .packet) ∙ sym (call .before .battery-size .ensures .0))
+    (a .buffer .now) (call .answer-for .ensures) (wrote .answer .given .1) (record-made .to-bytes .ensures) (framing .seal .ensures)
 
 returns-2 : tie.Need-returns-2
 returns-2 c =
     let refusal = c .before in
     let call = refusal .before .before in
     let a = Start-of call .args in
-    refused-frame (a .dest) batteryType (a .buffer .now) (Wrote (size call)) (batteryImage (a .packet)) (battery-long (a .packet) ∙ sym (call .before .battery-size .ensures .0))
+    refused-frame (a .dest) batteryType (a .buffer .now) (Wrote (size call)) (batteryImage (a .packet))
+    (battery-long (a .packet) ∙ sym (call .before .battery-size .ensures .0))
     (call .answer-for .ensures) (refusal .answer2 .given .1)
 
 pub write-battery-spec : {M : Type 1} → statement M

@@ -13,7 +13,8 @@ use Rattle.frames.proofs.write_gps.Tie as tie
 abbrev Start-of : tie.After-answer-for → tie.Start
 Start-of c = c .before .before
 
-go : (c : tie.After-answer) → (let a = Start-of (c .before .before) .args in Goes (a .dest) (Wrote (sizeOf gpsLayout)) (length (a .buffer .now)))
+go : (c : tie.After-answer)
+    → (let a = Start-of (c .before .before) .args in Goes (a .dest) (Wrote (sizeOf gpsLayout)) (length (a .buffer .now)))
 go c =
     let call = c .before .before in
     let a = Start-of call .args in
@@ -57,15 +58,16 @@ returns c =
     let wrote = record-made .before .before .before in
     let call = wrote .before .before in
     let a = Start-of call .args in
-    record-written (a .dest) gpsType (Wrote (sizeOf gpsLayout)) _ (gps-long (a .packet)) (a .buffer .now)
-    (call .answer-for .ensures) (wrote .answer .given .1) (record-made .to-bytes .ensures) (framing .seal .ensures)
+    record-written (a .dest) gpsType (Wrote (sizeOf gpsLayout)) _ (gps-long (a .packet))
+    (a .buffer .now) (call .answer-for .ensures) (wrote .answer .given .1) (record-made .to-bytes .ensures) (framing .seal .ensures)
 
 returns-2 : tie.Need-returns-2
 returns-2 c =
     let refusal = c .before in
     let call = refusal .before .before in
     let a = Start-of call .args in
-    refused-frame (a .dest) gpsType (a .buffer .now) (Wrote (sizeOf gpsLayout)) (gpsImage (a .packet)) (gps-long (a .packet))
+    refused-frame (a .dest) gpsType (a .buffer .now) (Wrote (sizeOf gpsLayout)) (gpsImage (a .packet))
+    (gps-long (a .packet))
     (call .answer-for .ensures) (refusal .answer2 .given .1)
 
 pub write-gps-spec : {M : Type 1} → statement M

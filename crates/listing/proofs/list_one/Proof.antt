@@ -1,5 +1,4 @@
 -- `listing::list_one` meets its contract. Assumes nothing.
-use mathlib.Core.Path.{sym}
 use Rattle.lines.proofs.Puts.{puts-line, puts-as}
 use Rattle.listing.proofs.Said.{line-is}
 use borrow.Author.Needs.{needs}

@@ -64,7 +64,8 @@ returns c =
     let size : wrote .answer .given .0 .0 - 4 ≡ n =
     omega (arith, whole-size (a .dest) (a .written) (length b) (call .answer-for .ensures) (wrote .answer .given .1)) in
     rw (image-wrote (a .written) payload (go .some))
-    (written-frame (a .dest) (a .kind) (a .written) (take n payload) (length-take-le n payload (omega arith)) b (call .answer-for .ensures) (wrote .answer .given .1)
+    (written-frame (a .dest) (a .kind) (a .written) (take n payload) (length-take-le n payload (omega arith)) b
+    (call .answer-for .ensures) (wrote .answer .given .1)
     (copy .copy-in .ensures
     ∙ ap (copied b 3 payload) size
     ∙ copied-fits b 3 payload n (omega arith) (omega arith)

@@ -2,7 +2,7 @@
 use mathlib.Core.Path.{ap}
 use Rattle.stream.specs.declared.step.Place.{Place}
 use Rattle.lines.specs.Put.{placeLine}
-use Rattle.lines.proofs.Puts.{puts-as}
+use Rattle.lines.proofs.Puts.{line-as}
 use borrow.Author.Needs.{needs}
 use Rattle.lines.proofs.line.put_placed.Statement.{statement}
 use Rattle.lines.proofs.line.put_placed.Tie as tie
@@ -25,9 +25,9 @@ same-length c = search needs
 returns : tie.Need-returns
 returns c =
     let put = c .before .before in
-    let told = put .before .before in
-    let a = told .before .before .before .before .before .args in
-    (puts-as (ap (λ (x : Place). placeLine x (a .piece .now) (a .places .now)) (told .enum-told .given .1)) (put .put-frame-at .ensures .0), put .put-frame-at .ensures .1)
+    let known = put .before .before in
+    let a = known .before .before .before .before .before .args in
+    line-as (ap (λ (x : Place). placeLine x (a .piece .now) (a .places .now)) (known .enum-told .given .1)) (put .put-frame-at .ensures)
 
 same-length-2 : tie.Need-same-length-2
 same-length-2 c = search needs
@@ -37,7 +37,7 @@ returns-2 c =
     let put = c .before .before in
     let place = put .before .before .before in
     let a = place .before .before .before .before .before .args in
-    (puts-as (ap (λ (x : Place). placeLine x (a .piece .now) (a .places .now)) (place .place .given .1)) (put .put-frame-at2 .ensures .0), put .put-frame-at2 .ensures .1)
+    line-as (ap (λ (x : Place). placeLine x (a .piece .now) (a .places .now)) (place .place .given .1)) (put .put-frame-at2 .ensures)
 
 pub put-placed-spec : {M : Type 1} → statement M
 put-placed-spec =

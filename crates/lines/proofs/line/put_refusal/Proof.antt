@@ -1,11 +1,10 @@
 -- `lines::line::put_refusal` meets its contract. Assumes nothing.
 use mathlib.Core.Path.{_≡_, sym, ap, _∙_}
 use Prim.Native.Nat.{_%_}
-use native.Mathlib.Omega.{arith}
 use lib.ListN.{getD}
 use Rattle.refusals.specs.Row.{rowOf}
 use Rattle.refusals.specs.declared.Row.{Row}
-use Rattle.lines.proofs.Puts.{puts-none, puts-as}
+use Rattle.lines.proofs.Puts.{line-none, line-as}
 use Rattle.lines.proofs.Rows.{sync-line, length-line, crc-line, no-line}
 use borrow.Author.Needs.{needs}
 use Rattle.lines.proofs.line.put_refusal.Statement.{statement}
@@ -38,7 +37,7 @@ returns c =
     let put = c .before .before in
     let test = put .before .before .before in
     let low = test .before .before in
-    (puts-as (sync-line _ (sym (number-is (low .before)) ∙ test .if1 .taken) (first-is low)) (put .put-one .ensures .0), put .put-one .ensures .1)
+    line-as (sync-line _ (sym (number-is (low .before)) ∙ test .if1 .taken) (first-is low)) (put .put-one .ensures)
 
 slice-aggregate-put-one-2 : tie.Need-slice-aggregate-put-one-2
 slice-aggregate-put-one-2 c = search needs
@@ -54,7 +53,7 @@ returns-2 c =
     let put = c .before .before in
     let test = put .before .before .before in
     let low = test .before .before .before .before in
-    (puts-as (length-line _ (sym (number-is (low .before)) ∙ test .if2 .taken) (first-is low)) (put .put-one2 .ensures .0), put .put-one2 .ensures .1)
+    line-as (length-line _ (sym (number-is (low .before)) ∙ test .if2 .taken) (first-is low)) (put .put-one2 .ensures)
 
 narrow-requires-2 : tie.Need-narrow-requires-2
 narrow-requires-2 c κs = search needs
@@ -71,14 +70,14 @@ returns-3 c =
     let test = put .before .before .before in
     let low = test .before .before .before .before .before .before in
     let second = put .before .narrow2 .ensures ∙ ap (λ (x : Row). x .second % 256) (low .before .row-of .ensures) in
-    (puts-as (crc-line _ (sym (number-is (low .before)) ∙ test .if3 .taken) (first-is low) second) (put .put-crc .ensures .0), put .put-crc .ensures .1)
+    line-as (crc-line _ (sym (number-is (low .before)) ∙ test .if3 .taken) (first-is low) second) (put .put-crc .ensures)
 
 returns-4 : tie.Need-returns-4
 returns-4 c =
     let test2 = c .before .before in
     let test1 = test2 .before .before in
     let number = number-is (test1 .before .before .before) in
-    (puts-as (no-line _ (λ e. test1 .if1 .left (number ∙ e)) (λ e. test2 .if2 .left (number ∙ e)) (λ e. c .if3 .left (number ∙ e))) puts-none, omega arith)
+    line-as (no-line _ (λ e. test1 .if1 .left (number ∙ e)) (λ e. test2 .if2 .left (number ∙ e)) (λ e. c .if3 .left (number ∙ e))) line-none
 
 pub put-refusal-spec : {M : Type 1} → statement M
 put-refusal-spec =

@@ -1,4 +1,5 @@
--- `parser::CrsfParser::places` meets its contract: a walk of its MIR, by hand. A `&` to the parser gives a `&` to its array, and that a `&` to a slice, all at the parser's own lifetime. A `&` is Copy, so the one that was passed is kept for the exit.
+-- `parser::CrsfParser::places` meets its contract: a walk of its MIR, by hand. A `&` to the parser gives a `&` to its array, and that a `&` to a
+-- slice, all at the parser's own lifetime. A `&` is Copy, so the one that was passed is kept for the exit.
 -- Assumes nothing.
 use mathlib.Core.Path.{_≡_, refl, sym, ap}
 use Prim.Native.Nat.{ℕ, _+_}

@@ -38,7 +38,14 @@ returns-2 c =
     let latitude = longitude .before in
     let room = latitude .before in
     all-got gpsLayout (room .before .before .args .payload .now) tt (room .before .shared-slice-known .given) (room .if1 .left)
-    (rw (c .get-u8 .ensures, altitude .get-u163 .ensures, heading .get-u162 .ensures, groundspeed .get-u16 .ensures, longitude .get-i322 .ensures, latitude .get-i32 .ensures))
+    (rw (
+      c .get-u8 .ensures,
+      altitude .get-u163 .ensures,
+      heading .get-u162 .ensures,
+      groundspeed .get-u16 .ensures,
+      longitude .get-i322 .ensures,
+      latitude .get-i32 .ensures,
+    ))
 
 pub from-bytes-spec : {M : Type 1} → statement M
 from-bytes-spec =

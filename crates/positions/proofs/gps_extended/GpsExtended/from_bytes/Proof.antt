@@ -62,7 +62,20 @@ returns-2 c =
     let fix-type = n-speed .before in
     let room = fix-type .before in
     all-got gpsExtendedLayout (room .before .before .args .payload .now) tt (room .before .shared-slice-known .given) (room .if1 .left)
-    (rw (c .get-u84 .ensures, h-dop .get-u83 .ensures, reserved .get-u82 .ensures, v-acc .get-i168 .ensures, h-acc .get-i167 .ensures, alt-ellipsoid .get-i166 .ensures, track-acc .get-i165 .ensures, h-speed-acc .get-i164 .ensures, v-speed .get-i163 .ensures, e-speed .get-i162 .ensures, n-speed .get-i16 .ensures, fix-type .get-u8 .ensures))
+    (rw (
+      c .get-u84 .ensures,
+      h-dop .get-u83 .ensures,
+      reserved .get-u82 .ensures,
+      v-acc .get-i168 .ensures,
+      h-acc .get-i167 .ensures,
+      alt-ellipsoid .get-i166 .ensures,
+      track-acc .get-i165 .ensures,
+      h-speed-acc .get-i164 .ensures,
+      v-speed .get-i163 .ensures,
+      e-speed .get-i162 .ensures,
+      n-speed .get-i16 .ensures,
+      fix-type .get-u8 .ensures,
+    ))
 
 pub from-bytes-spec : {M : Type 1} → statement M
 from-bytes-spec =

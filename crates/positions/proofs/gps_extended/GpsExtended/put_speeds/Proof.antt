@@ -51,7 +51,14 @@ returns c =
     let fix-type = n-speed .before .before .before .before .before in
     let start = fix-type .before .before .before in
     put-fields (take 6 gpsExtendedLayout) (take 6 (gpsExtendedValues (start .args .self))) 0 (start .args .buffer .now) (omega (arith, start .pre)) (typed start)
-    (rw (track-acc .put-i165 .ensures, h-speed-acc .put-i164 .ensures, v-speed .put-i163 .ensures, e-speed .put-i162 .ensures, n-speed .put-i16 .ensures, fix-type .put-u8 .ensures))
+    (rw (
+      track-acc .put-i165 .ensures,
+      h-speed-acc .put-i164 .ensures,
+      v-speed .put-i163 .ensures,
+      e-speed .put-i162 .ensures,
+      n-speed .put-i16 .ensures,
+      fix-type .put-u8 .ensures,
+    ))
 
 pub put-speeds-spec : {M : Type 1} → statement M
 put-speeds-spec =

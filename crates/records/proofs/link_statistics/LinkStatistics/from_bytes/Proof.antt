@@ -54,7 +54,18 @@ returns-2 c =
     let uplink-rssi1 = uplink-rssi2 .before in
     let room = uplink-rssi1 .before in
     all-got linkStatisticsLayout (room .before .before .args .payload .now) tt (room .before .shared-slice-known .given) (room .if1 .left)
-    (rw (c .get-i82 .ensures, downlink-link-quality .get-u88 .ensures, downlink-rssi .get-u87 .ensures, uplink-tx-power .get-u86 .ensures, rf-mode .get-u85 .ensures, active-antenna .get-u84 .ensures, uplink-snr .get-i8 .ensures, uplink-link-quality .get-u83 .ensures, uplink-rssi2 .get-u82 .ensures, uplink-rssi1 .get-u8 .ensures))
+    (rw (
+      c .get-i82 .ensures,
+      downlink-link-quality .get-u88 .ensures,
+      downlink-rssi .get-u87 .ensures,
+      uplink-tx-power .get-u86 .ensures,
+      rf-mode .get-u85 .ensures,
+      active-antenna .get-u84 .ensures,
+      uplink-snr .get-i8 .ensures,
+      uplink-link-quality .get-u83 .ensures,
+      uplink-rssi2 .get-u82 .ensures,
+      uplink-rssi1 .get-u8 .ensures,
+    ))
 
 pub from-bytes-spec : {M : Type 1} → statement M
 from-bytes-spec =

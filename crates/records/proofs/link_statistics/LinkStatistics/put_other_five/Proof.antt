@@ -40,7 +40,13 @@ returns c =
     let rf-mode = uplink-tx-power .before .before .before .before in
     let start = rf-mode .before .before .before in
     put-fields (drop 5 linkStatisticsLayout) (drop 5 (linkStatisticsValues (start .args .self))) 5 (start .args .buffer .now) (omega (arith, start .pre)) (typed start)
-    (rw (downlink-snr .put-i8 .ensures, downlink-link-quality .put-u84 .ensures, downlink-rssi .put-u83 .ensures, uplink-tx-power .put-u82 .ensures, rf-mode .put-u8 .ensures))
+    (rw (
+      downlink-snr .put-i8 .ensures,
+      downlink-link-quality .put-u84 .ensures,
+      downlink-rssi .put-u83 .ensures,
+      uplink-tx-power .put-u82 .ensures,
+      rf-mode .put-u8 .ensures,
+    ))
 
 pub put-other-five-spec : {M : Type 1} → statement M
 put-other-five-spec =
