@@ -23,7 +23,7 @@ use Rattle.reading.proofs.History.{faithful}
 use Rattle.stream.specs.Places.{heldIn}
 use Rattle.stream.specs.Step.{Moves}
 use Rattle.stream.specs.Rows.{rowsOf}
-use Rattle.stream.proofs.Drain.{rows-on, asks, held-is}
+use Rattle.stream.proofs.Replies.{rows-on, asks, held-is}
 use Rattle.stream.proofs.Histories.{goes-on}
 use Rattle.saved.specs.Form.{savedForm, isForm, heldOf}
 use Rattle.saved.proofs.Forms.{length-form}
