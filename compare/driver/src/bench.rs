@@ -20,7 +20,7 @@ const VISITS: usize = 31;
 const TURNS: usize = 5;
 pub const ROUNDS: usize = VISITS * TURNS;
 /// How many times a run starts each listing program.
-pub const LISTINGS: usize = 3;
+pub const LISTINGS: usize = 5;
 /// Bytes of a stream: a round is short, so that some rounds of each side are left in peace by whatever else runs.
 const STREAM: usize = 60_000;
 /// The length of a piece that is the whole stream.

@@ -32,7 +32,7 @@ struct Options {
     before_list: Option<String>,
 }
 
-const USAGE: &str = "compare/run [--seed N] [--bytes N] [--bench] [--record FILE] [--rust DIR] [--archive DIR]";
+const USAGE: &str = "compare/run [--seed N] [--bytes N] [--bench [--before DIR]] [--record FILE] [--rust DIR] [--archive DIR]";
 
 fn number(text: &str) -> u64 {
     text.parse::<f64>().ok().filter(|n| *n >= 0.0).unwrap_or_else(|| panic!("{text} is no number; usage: {USAGE}")) as u64
