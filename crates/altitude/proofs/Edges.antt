@@ -1,4 +1,4 @@
--- Every edge of the tables is what document 01 says.
+-- Every edge of the tables is so.
 -- Assumes nothing.
 use Prim.Native.Nat.{ℕ}
 use mathlib.Core.Path.{_≡_, refl}

@@ -1,4 +1,4 @@
--- Packed altitudes read back: exact near the ground, to the nearest metre above (document 01, "Record layouts").
+-- Packed altitudes read back: exact near the ground, to the nearest metre above (RULES 11).
 -- Assumes nothing.
 use mathlib.Core.Path.{_≡_, ap}
 use mathlib.Core.Bool.{true}

@@ -1,4 +1,4 @@
--- Document 01, "Record layouts": what the raw altitudes of two records mean, and how decimetres are packed.
+-- What the raw altitudes of two records mean, and how decimetres are packed (RULES 11).
 -- Assumes nothing.
 use Prim.Native.Nat.{ℕ, _+_, _-_, _*_, _/_}
 use lib.Dec.{ltb}
@@ -6,15 +6,16 @@ use lib.IntN.{ℤ, pos, negℤ, natAbs, _+ℤ_, _-ℤ_}
 use lib.Signed.{ltZ, quotZ}
 use Rattle.base.specs.Choice.{if_then_else_}
 
--- GPS: "metres are raw less 1000"
+-- GPS: raw is metres with 1000 added
 abbrev pub metresOf : ℕ → ℤ
 metresOf raw = pos raw -ℤ pos 1000
 
--- barometric: "top bit 0: decimetres minus 10000. Top bit 1: the low 15 bits are metres"
+-- barometric: with the top bit clear, decimetres with 10000 added; with the top bit set, the other 15 bits are whole metres
 unfoldable pub decimetresOf : ℕ → ℤ
 decimetresOf raw = if ltb raw 0x8000 then pos raw -ℤ pos 10000 else pos ((raw - 0x8000) * 10)
 
--- "packing d decimetres: below −10000 gives 0, above 327655 gives 0xFFFE, below 22768 gives d + 10000, else (d + 5) / 10 with the top bit set"
+-- decimetres packed: below 22768 with 10000 added, from there on as the nearest metre with the top bit set; outside −10000 to 327655 the nearest
+-- end, 0 or 0xFFFE
 unfoldable pub packOf : ℤ → ℕ
 packOf d =
     if ltZ d (negℤ (pos 10000)) then 0

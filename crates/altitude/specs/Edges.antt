@@ -1,4 +1,4 @@
--- The altitudes of document 01, "Both sides of each edge".
+-- Worked cases of altitudes (RULES 11), from both sides of each edge.
 -- Assumes nothing.
 use Prim.Native.Nat.{ℕ}
 use mathlib.Core.List.{List, [], _∷_}

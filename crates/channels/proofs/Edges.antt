@@ -1,8 +1,9 @@
--- Every edge of the table is written and read as document 01 says.
+-- Every edge of the table is written and read as the table says.
 -- Assumes nothing.
 use mathlib.Core.Path.{_≡_, refl}
 use mathlib.Core.List.{map}
-use Rattle.layout.specs.Writing.{bytes}
+use Rattle.writing.specs.Writing.{bytes}
+use Rattle.layout.specs.Decoded.{readRow}
 use Rattle.layout.specs.declared.ReadAnswer.the-variants.{Record}
 use Rattle.channels.specs.Digits.{number, digits}
 use Rattle.channels.specs.Channels.{channelsRead, firstAbove, channelsImage}
@@ -12,6 +13,6 @@ pub edges-written : map (λ (e : Edge). channelsImage (e .channels)) edges ≡ m
 unfolding number digits firstAbove channelsImage
 edges-written = refl
 
-pub edges-read : map (λ (e : Edge). channelsRead (e .gives)) edges ≡ map (λ (e : Edge). record { answer = Record; channels = e .channels }) edges
+pub edges-read : map (λ (e : Edge). channelsRead (e .gives)) edges ≡ map (λ (e : Edge). (readRow Record, e .channels)) edges
 unfolding number digits channelsRead
 edges-read = refl

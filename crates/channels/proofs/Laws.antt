@@ -1,5 +1,4 @@
--- Document 01, "Record layouts", of channels: all 22-byte strings are images, each of one set, so reading after writing and writing after reading
--- change nothing.
+-- Every string of 22 bytes is what one set of channels is written as, so reading after writing and writing after reading change nothing (RULES 10).
 -- Assumes nothing.
 use mathlib.Core.Path.{_≡_, ap, _∙_, subst}
 use mathlib.Core.List.{List, _++_}
@@ -11,8 +10,9 @@ use lib.ListN.{length, length-append}
 use lib.Seq.{take-at, take-all}
 use Rattle.base.proofs.Tests.{below}
 use Rattle.base.specs.Bytes.{Bytes}
-use Rattle.layout.specs.Writing.{bytes, refused}
-use Rattle.layout.specs.declared.Written.the-variants.{ChannelRange}
+use Rattle.refusals.specs.declared.Refusal.the-variants.{ChannelRange}
+use Rattle.writing.specs.Writing.{bytes, refused}
+use Rattle.layout.specs.Decoded.{readRow}
 use Rattle.layout.specs.declared.ReadAnswer.the-variants.{Record}
 use Rattle.channels.specs.Digits.{number, digits, Below}
 use Rattle.channels.specs.Channels.{channelsOf, channelBytes, channelsRead, firstAbove, channelsImage}
@@ -30,15 +30,15 @@ module _ (c : RcChannelsPacked) where
   image-bytes h = simp (le-ltb _ 16 h)
 
   -- where there are bytes to write, they are those of channels in range
-  told : (payload : List ℕ) → channelsImage c ≡ bytes payload → (16 ≤ firstAbove (c .0)) × (channelBytes (c .0) ≡ payload)
-  told payload e =
+  known : (payload : List ℕ) → channelsImage c ≡ bytes payload → (16 ≤ firstAbove (c .0)) × (channelBytes (c .0) ≡ payload)
+  known payload e =
       ⊎-elim
       (λ (bad : firstAbove (c .0) < 16). let no = image-refused bad in let z : _≡_ {A = ℕ} 0 1 = cc in absurd (omega arith))
       (λ (good : 16 ≤ firstAbove (c .0)). let these = image-bytes good in (good, cc))
       (below (firstAbove (c .0)) 16)
 
   pub channels-length : (payload : List ℕ) → channelsImage c ≡ bytes payload → length payload ≡ 22
-  channels-length payload e = rw (← (told payload e .1)) (length-digits 8 22 (number 11 (c .0)))
+  channels-length payload e = rw (← (known payload e .1)) (length-digits 8 22 (number 11 (c .0)))
 
 -- sets of channels and 22-byte strings are one to one
 pub channels-back : (channels : List ℕ) → length channels ≡ 16 → Below 11 channels → channelsOf (channelBytes channels) ≡ channels
@@ -55,19 +55,19 @@ channels-image c n h = image-bytes c (omega (arith, not-above (c .0) h))
 -- READING AFTER WRITING, whatever stands behind
 pub channels-read-written :
     (c : RcChannelsPacked) (payload after : List ℕ) → length (c .0) ≡ 16 → channelsImage c ≡ bytes payload
-    → channelsRead (payload ++ after) ≡ record { answer = Record; channels = c }
+    → channelsRead (payload ++ after) ≡ (readRow Record, c)
 unfolding channelsRead
 channels-read-written c payload after n e =
     let long : length payload ≡ 22 = channels-length c payload e in
-    let good : 16 ≤ firstAbove (c .0) = told c payload e .0 in
+    let good : 16 ≤ firstAbove (c .0) = known c payload e .0 in
     let back : channelsOf payload ≡ c .0 =
-    rw (← (told c payload e .1)) (channels-back (c .0) n (none-above (c .0) (omega (arith, n)))) in
+    rw (← (known c payload e .1)) (channels-back (c .0) n (none-above (c .0) (omega (arith, n)))) in
     rw (le-ltb (length (payload ++ after)) 22 (omega (arith, length-append payload after)), take-at payload after 22 long)
-    (ap (λ (l : List ℕ). record { answer = Record; channels = record { 0 = l } }) back)
+    (ap (λ (l : List ℕ). (readRow Record, record { 0 = l })) back)
 
 -- WRITING AFTER READING: every 22-byte string is written again
 pub channels-written-read :
-    (payload : List ℕ) → length payload ≡ 22 → Bytes payload → channelsImage (channelsRead payload .channels) ≡ bytes payload
+    (payload : List ℕ) → length payload ≡ 22 → Bytes payload → channelsImage (channelsRead payload .1) ≡ bytes payload
 unfolding channelsRead
 channels-written-read payload n byte =
     rw (le-ltb (length payload) 22 (omega arith), take-all 22 payload (omega arith))

@@ -1,4 +1,4 @@
--- The channels' cases of document 01, "Both sides of each edge", those marked P: one table. Sixteen channels, and the bytes that they are written as.
+-- Worked cases of RC channels (RULES 10) in one table: sixteen channels, and the bytes that they are written as.
 -- Assumes nothing.
 use Prim.Native.Nat.{ℕ}
 use mathlib.Core.List.{List, [], _∷_, _++_}

@@ -1,16 +1,23 @@
 // RC channels (0x16): sixteen channels of 11 bits in 22 bytes.
 use layout::ReadAnswer;
-use layout::Written;
+use refusals::Refusal;
+use writing::Written;
 ghost use mathlib.Core.Path.{_≡_};
 ghost use Prim.Native.Nat.{_+_, _≤_, _<_};
 ghost use lib.ListN.{length, getD};
 ghost use Rattle.base.specs.Parts.{part, pasted};
-ghost use Rattle.layout.specs.Writing.{writeOf};
+ghost use Rattle.layout.specs.Decoded.{readRow};
+ghost use Rattle.writing.specs.Writing.{writtenRow, writeOf};
 ghost use Rattle.channels.specs.Digits.{Below};
-ghost use Rattle.channels.specs.Channels.{channelsOf, channelBytes, channelsRead, firstAbove, channelsImage};
+ghost use Rattle.channels.specs.Channels.{channelsOf, channelBytes, channelsSize, channelsRead, firstAbove, channelsImage};
 
-// Sixteen raw channel values. Those up to 2047 can be written.
-pub struct RcChannelsPacked(pub [u16; 16]);
+const COUNT: usize = 16;
+
+// The greatest number of 11 bits.
+const GREATEST: u16 = 2047;
+
+// Raw channel values. Those up to 2047 can be written.
+pub struct RcChannelsPacked(pub [u16; COUNT]);
 
 // An enum holds no array, so the channels stand beside the answer: all 0 with a refusal.
 pub struct ChannelsRead {
@@ -64,7 +71,7 @@ fn channel_at(channels: &[u16], i: usize) -> u32
 
 // Byte `i` starts at bit 8 i and lies within two channels.
 fn byte_of(channels: &[u16], i: usize) -> u8
-    requires { ⌜ i < 22 ⌝ }
+    requires { ⌜ i < channelsSize ⌝ }
     requires { ⌜ Below 11 (now channels) ⌝ }
     ensures { λ r. ⌜ r ≡ getD (channelBytes (now (channels .entry))) i 0 ⌝ }
 {
@@ -78,7 +85,7 @@ fn byte_of(channels: &[u16], i: usize) -> u8
 
 // Eleven bytes hold eight channels. Two short loops are unrolled where one of 22 turns is not.
 fn put_group(buffer: &mut [u8], channels: &[u16], from: usize)
-    requires { ⌜ (from + 11 ≤ 22) × (from + 11 ≤ length (now buffer)) ⌝ }
+    requires { ⌜ (from + 11 ≤ channelsSize) × (from + 11 ≤ length (now buffer)) ⌝ }
     requires { ⌜ Below 11 (now channels) ⌝ }
     ensures { λ _. ⌜ now (buffer .exit) ≡ pasted (now (buffer .entry)) from (part (channelBytes (now (channels .entry))) from 11) ⌝ }
 {
@@ -93,7 +100,7 @@ fn first_above(channels: &[u16]) -> usize
 {
     let mut i = 0;
     while i < channels.len() {
-        if channels[i] > 2047 {
+        if channels[i] > GREATEST {
             return i;
         }
         i += 1;
@@ -107,17 +114,17 @@ impl RcChannelsPacked {
     pub const MIN_PAYLOAD_SIZE: usize = 22;
 
     pub fn from_bytes(payload: &[u8]) -> ChannelsRead
-        ensures { λ r. ⌜ r ≡ channelsRead (now (payload .entry)) ⌝ }
+        ensures { λ r. ⌜ (readRow (r .answer), r .channels) ≡ channelsRead (now (payload .entry)) ⌝ }
     {
-        let mut channels = [0u16; 16];
-        if payload.len() < 22 {
+        let mut channels = [0u16; COUNT];
+        if payload.len() < Self::MIN_PAYLOAD_SIZE {
             return ChannelsRead {
-                answer: ReadAnswer::InvalidPayloadLength,
+                answer: ReadAnswer::Refused(Refusal::InvalidPayloadLength),
                 channels: RcChannelsPacked(channels),
             };
         }
-        let whole = &payload[..22];
-        for i in 0..16 {
+        let whole = &payload[..Self::MIN_PAYLOAD_SIZE];
+        for i in 0..COUNT {
             channels[i] = channel_of(whole, i);
         }
         ChannelsRead {
@@ -127,18 +134,18 @@ impl RcChannelsPacked {
     }
 
     pub fn to_bytes(self, buffer: &mut [u8]) -> Written
-        ensures { λ r. ⌜ (r, now (buffer .exit)) ≡ writeOf (channelsImage self) (now (buffer .entry)) ⌝ }
+        ensures { λ r. ⌜ (writtenRow r, now (buffer .exit)) ≡ writeOf (channelsImage self) (now (buffer .entry)) ⌝ }
     {
         let packed = self.0;
         let bad = first_above(&packed);
-        if bad < 16 {
-            return Written::ChannelRange(bad);
+        if bad < COUNT {
+            return Written::Refused(Refusal::ChannelRange(bad));
         }
-        if buffer.len() < 22 {
-            return Written::BufferOverflow;
+        if buffer.len() < Self::MIN_PAYLOAD_SIZE {
+            return Written::Refused(Refusal::BufferOverflow);
         }
         put_group(buffer, &packed, 0);
         put_group(buffer, &packed, 11);
-        Written::Wrote(22)
+        Written::Wrote(Self::MIN_PAYLOAD_SIZE)
     }
 }

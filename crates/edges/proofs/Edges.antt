@@ -1,21 +1,20 @@
--- Every case of the table is as document 01 says.
+-- Every case of the table is so.
 -- Assumes nothing.
 use mathlib.Core.Path.{refl}
 use Rattle.numbers.specs.BigEndian.{bytesOf}
 use Rattle.numbers.specs.TwosComplement.{twosOf}
 use Rattle.packets.specs.Listed.{listed}
 use Rattle.crc.specs.Remainder.{remainder, remainderFrom, afterByte, shifts, shiftBit}
-use Rattle.reading.specs.Answer.{number, values, drops}
+use Rattle.reading.specs.Answer.{row, drops}
 use Rattle.reading.specs.Reading.{reading, readingPast, first, goodLength, passes}
-use Rattle.channels.specs.Digits as digits
-use Rattle.channels.specs.Digits.{digits}
+use Rattle.channels.specs.Digits.{number, digits}
 use Rattle.channels.specs.Channels.{firstAbove, channelsImage}
 use Rattle.altitude.specs.Altitude.{packOf}
 use Rattle.records.specs.Battery.{batteryValues}
 use Rattle.edges.specs.Edges.{AllHold, table}
 
 pub all-hold : AllHold table
-unfolding listed remainder remainderFrom afterByte shifts shiftBit number values drops reading readingPast first goodLength passes bytesOf twosOf digits.number digits firstAbove channelsImage packOf batteryValues
+unfolding listed remainder remainderFrom afterByte shifts shiftBit row drops reading readingPast first goodLength passes bytesOf twosOf number digits firstAbove channelsImage packOf batteryValues
 all-hold = (
   refl,
   (

@@ -1,5 +1,5 @@
--- Document 01, "Both sides of each edge": the cases marked P, with C8 3E and the example of "The listing", in one table. What each
--- says stands with what it is about, in the crates' own `Edges`; here they are put together.
+-- Worked cases from both sides of each edge of the rules (RULES 4, 5, 10, 11), in one table. What each says stands with what it is about, in the
+-- crates' own `Edges`; here they are put together.
 -- Assumes nothing.
 use mathlib.Core.Path.{_≡_}
 use mathlib.Core.List.{List, [], _∷_, _++_, map}
@@ -7,8 +7,8 @@ use Prim.Native.Nat.{ℕ}
 use lib.IntN.{ℤ}
 use Rattle.reading.specs.Edges as reading
 use Rattle.reading.specs.Edges.{shown}
-use Rattle.reading.specs.Reading.{reading}
-use Rattle.layout.specs.Writing.{bytes}
+use Rattle.reading.specs.Reading.{limit, reading}
+use Rattle.writing.specs.Writing.{bytes}
 use Rattle.channels.specs.Channels.{channelsImage}
 use Rattle.channels.specs.Edges as channels
 use Rattle.altitude.specs.Altitude.{packOf}
@@ -17,20 +17,20 @@ use Rattle.records.specs.Battery.{batteryImage}
 use Rattle.records.specs.Edges.{batteryEdges}
 use Rattle.records.specs.declared.battery.Battery.{Battery}
 
--- what 01 says in such a case
+-- what is so in a case
 pub data Case : Type 0 where
-  -- a byte string gives these answers, and so many bytes are held at the end
+  -- a byte string gives these answers, and that many bytes are held at the end
   gives : reading.Edge → Case
   -- sixteen channels are written as these bytes
   carries : channels.Edge → Case
-  -- so many decimetres pack to this word
+  -- that many decimetres pack to this word
   packs : ℤ × ℕ → Case
   -- a battery is written as these bytes
   writes : Battery × List ℕ → Case
 
 -- that it is so
 abbrev pub Holds : Case → Type 0
-Holds (gives e) = shown (reading 64 (e .input)) ≡ e .gives
+Holds (gives e) = shown (reading limit (e .input)) ≡ e .gives
 Holds (carries e) = channelsImage (e .channels) ≡ bytes (e .gives)
 Holds (packs (d, word)) = packOf d ≡ word
 Holds (writes (battery, payload)) = batteryImage battery ≡ bytes payload

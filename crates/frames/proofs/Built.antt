@@ -11,10 +11,10 @@ use Rattle.base.specs.Parts.{part, pasted}
 use Rattle.base.proofs.Parts.{pasted-append, pasted-front, length-part}
 use Rattle.crc.specs.Remainder.{remainder}
 use Rattle.reading.specs.Frame.{frame}
-use Rattle.layout.specs.Writing.{bytes, writeOf}
-use Rattle.layout.specs.declared.Written.{Written}
-use Rattle.layout.specs.declared.Written.the-variants.{Wrote, BufferOverflow}
-use Rattle.layout.proofs.Writing.{writes, overflows}
+use Rattle.refusals.specs.declared.Refusal.the-variants.{BufferOverflow}
+use Rattle.writing.specs.Writing.{bytes, writtenRow, writeOf}
+use Rattle.writing.specs.declared.Written.the-variants.{Wrote, Refused}
+use Rattle.writing.proofs.Writing.{writes, overflows}
 use Rattle.frames.specs.Frames.{framedBody}
 
 module _ (n dest kind : ℕ) (b : List ℕ) (room : n + 4 ≤ length b) where
@@ -64,13 +64,13 @@ module _ (n dest kind : ℕ) (b : List ℕ) (room : n + 4 ≤ length b) where
 
 -- a frame about a payload put in its place first: nothing else is left of that
 module _ (pay : List ℕ) (n dest kind : ℕ) (long : length pay ≡ n) where
-  -- as many bytes as are told
+  -- as many bytes as are answered
   pub frame-size : length (frame dest (kind ∷ pay)) ≡ n + 4
   unfolding frame
   frame-size = omega (arith, length-append pay (remainder (kind ∷ pay) ∷ []))
 
   module _ (b : List ℕ) where
-    pub short : length b < n + 4 → (BufferOverflow, b) ≡ writeOf (framedBody dest kind (bytes pay)) b
+    pub short : length b < n + 4 → (writtenRow (Refused BufferOverflow), b) ≡ writeOf (framedBody dest kind (bytes pay)) b
     unfolding framedBody
     short = overflows (frame dest (kind ∷ pay)) b (n + 4) frame-size
 
@@ -104,30 +104,29 @@ module _ (pay : List ℕ) (n dest kind : ℕ) (long : length pay ≡ n) where
           ∙ ap (λ (k : ℕ). f ++ drop k b) (sym frame-size)
           ∙ sym (pasted-front b f)
 
-      pub sealed : {b′ after : List ℕ} {r : Written} → b′ ≡ pasted b 3 pay
-          → (r ≡ Wrote (n + 4)) × (after ≡ pasted b′ 0 (frame dest (kind ∷ part b′ 3 n)))
-          → (r, after) ≡ writeOf (framedBody dest kind (bytes pay)) b
+      pub sealed : {b′ after : List ℕ} → b′ ≡ pasted b 3 pay → after ≡ pasted b′ 0 (frame dest (kind ∷ part b′ 3 n))
+          → (writtenRow (Wrote (n + 4)), after) ≡ writeOf (framedBody dest kind (bytes pay)) b
       unfolding framedBody
-      sealed e answers =
+      sealed e sealed-so =
           let stored =
-          answers .1
+          sealed-so
           ∙ ap (λ (l : List ℕ). pasted l 0 (frame dest (kind ∷ part l 3 n))) e
           ∙ ap (λ (l : List ℕ). pasted (pasted b 3 pay) 0 (frame dest (kind ∷ l))) there
           ∙ covered in
-          rw (answers .0, stored) (writes (frame dest (kind ∷ pay)) b (n + 4) frame-size room)
+          rw stored (writes (frame dest (kind ∷ pay)) b (n + 4) frame-size room)
 
 -- a record's own writer in the bytes behind the head puts the payload there
-pub in-place : (b pay : List ℕ) (n : ℕ) → length pay ≡ n → n + 4 ≤ length b → {w : Written} {ys : List ℕ}
-    → (w, ys) ≡ writeOf (bytes pay) (take (length b - 3) (drop 3 b))
+pub in-place : (b pay : List ℕ) (n : ℕ) → length pay ≡ n → n + 4 ≤ length b → {row ys : List ℕ}
+    → (row, ys) ≡ writeOf (bytes pay) (take (length b - 3) (drop 3 b))
     → take 3 b ++ (ys ++ drop (length b - 3) (drop 3 b)) ≡ pasted b 3 pay
 unfolding pasted
-in-place b pay n long room {w} {ys} e =
+in-place b pay n long room {row} {ys} e =
     let t : List ℕ = drop 3 b in
     let few : length t ≤ length b - 3 = omega (arith, length-drop 3 b) in
     let all : take (length b - 3) t ≡ t = take-all (length b - 3) t few in
     let fits : n ≤ length (take (length b - 3) t) = simp (length-take, length-drop) (omega arith) in
     let is : ys ≡ pasted (take (length b - 3) t) 0 pay =
-    ap (λ (x : Written × List ℕ). x .1) (e ∙ sym (writes pay (take (length b - 3) t) n long fits)) in
+    ap (λ (x : List ℕ × List ℕ). x .1) (e ∙ sym (writes pay (take (length b - 3) t) n long fits)) in
     ap (λ (l : List ℕ). take 3 b ++ (ys ++ l)) (drop-of-length-le t few)
     ∙ ap (λ (l : List ℕ). take 3 b ++ l)
     (append-nil ys ∙ is ∙ ap (λ (l : List ℕ). pasted l 0 pay) all ∙ pasted-front t pay ∙ ap (λ (l : List ℕ). pay ++ l) (drop-drop (length pay) 3 b))

@@ -7,7 +7,7 @@ use native.Mathlib.Omega.{arith}
 use lib.Dec.{eqb}
 use lib.ListN.{length}
 use Rattle.base.proofs.Tests.{by-test, below}
-use Rattle.layout.specs.Writing.{Image}
+use Rattle.writing.specs.Writing.{Image}
 use Rattle.channels.specs.Channels.{firstAbove, channelBytes, channelsImage}
 use Rattle.channels.specs.declared.RcChannelsPacked.{RcChannelsPacked}
 use Rattle.channels.proofs.Laws.{image-refused, image-bytes, channels-length}

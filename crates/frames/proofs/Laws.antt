@@ -8,18 +8,19 @@ use native.Mathlib.Omega.{arith}
 use lib.ListN.{length}
 use Rattle.packets.specs.Listed.{listed}
 use Rattle.reading.specs.Answer.{Frame}
-use Rattle.reading.specs.Reading.{reading, _⊕_}
+use Rattle.reading.specs.Reading.{limit, reading, _⊕_}
 use Rattle.reading.specs.Frame.{frame, Valid}
+use Rattle.frames.specs.Frames.{mostPayload}
 use Rattle.reading.proofs.Tests.{good-length}
 use Rattle.reading.proofs.Frame.{frame-valid, frames-read}
 
-module _ (dest kind : ℕ) (payload : List ℕ) (address : listed dest ≡ true) (few : length payload ≤ 60) where
-  pub written-valid : Valid 64 (frame dest (kind ∷ payload))
-  written-valid = frame-valid dest (kind ∷ payload) 64 address (good-length 64 _ (omega arith) (omega arith))
+module _ (dest kind : ℕ) (payload : List ℕ) (address : listed dest ≡ true) (few : length payload ≤ mostPayload) where
+  pub written-valid : Valid limit (frame dest (kind ∷ payload))
+  written-valid = frame-valid dest (kind ∷ payload) limit address (good-length limit _ (omega arith) (omega arith))
 
   -- whatever stands behind it
   pub written-reads : (more : List ℕ)
-      → reading 64 (frame dest (kind ∷ payload) ++ more) ≡ (Frame (frame dest (kind ∷ payload)) ∷ []) ⊕ reading 64 more
+      → reading limit (frame dest (kind ∷ payload) ++ more) ≡ (Frame (frame dest (kind ∷ payload)) ∷ []) ⊕ reading limit more
   written-reads more =
-      ap (λ (s : List ℕ). reading 64 (s ++ more)) (sym (append-nil (frame dest (kind ∷ payload))))
-      ∙ frames-read 64 (frame dest (kind ∷ payload) ∷ []) more (written-valid, tt)
+      ap (λ (s : List ℕ). reading limit (s ++ more)) (sym (append-nil (frame dest (kind ∷ payload))))
+      ∙ frames-read limit (frame dest (kind ∷ payload) ∷ []) more (written-valid, tt)

@@ -1,5 +1,5 @@
 pub mod Built
-pub mod Addressed
+pub mod Answered
 pub mod Fits
 pub mod Payload
 pub mod Laws

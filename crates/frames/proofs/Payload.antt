@@ -1,21 +1,22 @@
 -- What a record's own writer leaves in sixty places of a payload is the record's image again: the one fact that the frame writers of
 -- records that may be refused need.
 -- Assumes nothing.
-use mathlib.Core.Path.{_≡_, refl, sym, ap, ap₂, _∙_}
+use mathlib.Core.Path.{_≡_, refl, ap, ap₂, _∙_}
 use mathlib.Core.List.{List}
 use Prim.Native.Nat.{ℕ, _≤_}
 use native.Mathlib.Omega.{arith}
 use lib.ListN.{length, take, drop}
 use lib.Seq.{take-at}
 use Rattle.base.proofs.Parts.{pasted-front, length-pasted}
-use Rattle.layout.specs.Writing.{Image, bytes, refused, writeOf}
-use Rattle.layout.specs.declared.Written.{Written}
-use Rattle.layout.specs.declared.Written.the-variants.{Wrote, InvalidPayloadLength, BufferOverflow, ChannelRange, BadAddress}
-use Rattle.layout.proofs.Writing.{writes, refuses}
-use Rattle.frames.specs.Frames.{imageIn, sizeIn, Small}
+use Rattle.writing.specs.Writing.{Image, bytes, refused, writtenRow, writeOf}
+use Rattle.writing.specs.declared.Written.{Written}
+use Rattle.writing.specs.declared.Written.the-variants.{Wrote, Refused}
+use Rattle.writing.proofs.Writing.{writes, refuses}
+use Rattle.writing.proofs.Rows.{one-write}
+use Rattle.frames.specs.Frames.{mostPayload, imageIn, sizeIn, Small}
 
 pub record Back (image : Image) (w : Written) (places : List ℕ) : Type 0 where
-  pub few : sizeIn w ≤ 60
+  pub few : sizeIn w ≤ mostPayload
   pub there : sizeIn w ≤ length places
   pub same : imageIn w places ≡ image
 
@@ -25,23 +26,16 @@ again {image} {w} {w′} {p} {p′} e b =
     let v : p ≡ p′ = ap (λ (x : Written × List ℕ). x .1) e in
     record { few = rw u (b .few); there = rw (u, v) (b .there); same = ap₂ imageIn u v ∙ b .same }
 
-refusal : (w : Written) (places : List ℕ) → Small (refused w) → Back (refused w) w places
-unfolding imageIn
-refusal (Wrote n) places h = absurd h
-refusal InvalidPayloadLength places h = record { few = omega arith; there = omega arith; same = refl }
-refusal BufferOverflow places h = record { few = omega arith; there = omega arith; same = refl }
-refusal (ChannelRange i) places h = record { few = omega arith; there = omega arith; same = refl }
-refusal BadAddress places h = record { few = omega arith; there = omega arith; same = refl }
-
-pub back : (image : Image) {w : Written} {after : List ℕ} (places : List ℕ) → length places ≡ 60 → Small image → (w, after) ≡ writeOf image places
-    → Back image w after
+pub back : (image : Image) {w : Written} {after : List ℕ} (places : List ℕ) → length places ≡ mostPayload → Small image
+    → (writtenRow w, after) ≡ writeOf image places → Back image w after
 unfolding imageIn
 back (bytes bs) places sixty small e =
     let room : length bs ≤ length places = omega arith in
-    again (e ∙ sym (writes bs places (length bs) refl room))
+    again (one-write e (writes bs places (length bs) refl room))
     (record {
       few = small;
       there = omega (arith, length-pasted places 0 bs (omega arith));
       same = ap bytes (ap (take (length bs)) (pasted-front places bs) ∙ take-at bs (drop (length bs) places) (length bs) refl);
     })
-back (refused w) places sixty small e = again (e ∙ sym (refuses w places)) (refusal w places small)
+back (refused r) places sixty small e =
+    again (one-write e (refuses r places)) (record { few = omega arith; there = omega arith; same = refl })

@@ -3,8 +3,9 @@
 use mathlib.Core.List.{List}
 use Prim.Native.Nat.{ℕ}
 use denote.Ref.{now}
-use Rattle.base.proofs.Unique.{OneAnswer, same}
-use Rattle.layout.specs.declared.Written.{Written}
+use Rattle.base.proofs.Unique.{OneAnswer}
+use Rattle.writing.specs.declared.Written.{Written}
+use Rattle.writing.proofs.Rows.{one-write}
 use Rattle.frames.proofs.write_link_statistics.Reads as write-link-statistics
 use Rattle.frames.proofs.write_rc_channels_packed.Reads as write-rc-channels-packed
 use Rattle.frames.proofs.write_gps.Reads as write-gps
@@ -14,22 +15,22 @@ use Rattle.frames.proofs.write_baro_altitude.Reads as write-baro-altitu
 use Rattle.frames.proofs.write_rpm.Reads as write-rpm
 
 pub write-link-statistics-one : OneAnswer {Seen = Written × List ℕ} write-link-statistics.Post (λ κs r s. (r, now (s .0)))
-write-link-statistics-one κs a r r′ s s′ = same
+write-link-statistics-one κs a r r′ s s′ = one-write
 
 pub write-rc-channels-packed-one : OneAnswer {Seen = Written × List ℕ} write-rc-channels-packed.Post (λ κs r s. (r, now (s .0)))
-write-rc-channels-packed-one κs a r r′ s s′ = same
+write-rc-channels-packed-one κs a r r′ s s′ = one-write
 
 pub write-gps-one : OneAnswer {Seen = Written × List ℕ} write-gps.Post (λ κs r s. (r, now (s .0)))
-write-gps-one κs a r r′ s s′ = same
+write-gps-one κs a r r′ s s′ = one-write
 
 pub write-gps-extended-one : OneAnswer {Seen = Written × List ℕ} write-gps-extended.Post (λ κs r s. (r, now (s .0)))
-write-gps-extended-one κs a r r′ s s′ = same
+write-gps-extended-one κs a r r′ s s′ = one-write
 
 pub write-battery-one : OneAnswer {Seen = Written × List ℕ} write-battery.Post (λ κs r s. (r, now (s .0)))
-write-battery-one κs a r r′ s s′ = same
+write-battery-one κs a r r′ s s′ = one-write
 
 pub write-baro-altitude-one : OneAnswer {Seen = Written × List ℕ} write-baro-altitude.Post (λ κs r s. (r, now (s .0)))
-write-baro-altitude-one κs a r r′ s s′ = same
+write-baro-altitude-one κs a r r′ s s′ = one-write
 
 pub write-rpm-one : OneAnswer {Seen = Written × List ℕ} write-rpm.Post (λ κs r s. (r, now (s .0)))
-write-rpm-one κs a r r′ s s′ = same
+write-rpm-one κs a r r′ s s′ = one-write

@@ -1,22 +1,27 @@
-// The frame of a payload that a record's own writer has made.
+// What a frame has about its payload, and what its writer answers.
 use base::copy_in;
 use base::narrow;
 use crc::checksum;
-use layout::Written;
 use packets::is_address;
+use refusals::Refusal;
+use writing::Written;
 ghost use mathlib.Core.Path.{_≡_};
 ghost use mathlib.Core.List.{[], _∷_};
 ghost use Prim.Native.Nat.{_+_, _≤_, _<_};
-ghost use lib.ListN.{length, take};
+ghost use lib.ListN.{length};
 ghost use lib.Seq.{slice};
 ghost use Rattle.base.specs.Parts.{part, pasted};
 ghost use Rattle.crc.specs.Remainder.{remainder};
 ghost use Rattle.reading.specs.Frame.{frame};
-ghost use Rattle.layout.specs.Writing.{bytes, writeOf};
-ghost use Rattle.layout.specs.declared.Written.the-variants.{Wrote};
-ghost use Rattle.frames.specs.Frames.{framedBody, framed, imageIn, sizeIn};
+ghost use Rattle.writing.specs.Writing.{writtenRow, writeOf};
+ghost use Rattle.frames.specs.Frames.{framed, overhead, mostPayload, imageIn, sizeIn, answerFor};
 
 // Address, length byte and type.
+pub(crate) const HEAD: usize = 3;
+
+// The head and the check byte.
+const OVERHEAD: usize = 4;
+
 fn put_head(buffer: &mut [u8], dest: u8, count: u8, kind: u8)
     requires { ⌜ 3 ≤ length (now buffer) ⌝ }
     ensures { λ _. ⌜ now (buffer .exit) ≡ pasted (now (buffer .entry)) 0 (dest ∷ count ∷ kind ∷ []) ⌝ }
@@ -36,42 +41,36 @@ fn put_check(buffer: &mut [u8], last: usize)
 }
 
 // The frame of the size bytes that stand in their place already, behind the head's.
-pub(crate) fn seal(buffer: &mut [u8], dest: u8, kind: u8, size: usize) -> Written
-    requires { ⌜ (size ≤ 60) × (size + 4 ≤ length (now buffer)) ⌝ }
-    ensures { λ r. ⌜ (r ≡ Wrote (size + 4)) × (now (buffer .exit) ≡ pasted (now (buffer .entry)) 0 (frame dest (kind ∷ part (now (buffer .entry)) 3 size))) ⌝ }
+pub(crate) fn seal(buffer: &mut [u8], dest: u8, kind: u8, size: usize)
+    requires { ⌜ (size ≤ mostPayload) × (size + overhead ≤ length (now buffer)) ⌝ }
+    ensures { λ _. ⌜ now (buffer .exit) ≡ pasted (now (buffer .entry)) 0 (frame dest (kind ∷ part (now (buffer .entry)) 3 size)) ⌝ }
 {
     put_head(buffer, dest, narrow(size + 2), kind);
-    put_check(buffer, size + 3);
-    Written::Wrote(size + 4)
+    put_check(buffer, size + HEAD);
 }
 
-// The frame of the first size bytes of the payload.
-fn put_frame(buffer: &mut [u8], dest: u8, kind: u8, payload: &[u8], size: usize) -> Written
-    requires { ⌜ (size ≤ 60) × (size ≤ length (now payload)) ⌝ }
-    ensures { λ r. ⌜ (r, now (buffer .exit)) ≡ writeOf (framedBody dest kind (bytes (take size (now (payload .entry))))) (now (buffer .entry)) ⌝ }
+// What the writer of a frame answers where the record's own writer answers `written`, before it writes: a bad address is refused first, then
+// what the record's writer refuses, then a buffer that is too short.
+pub(crate) fn answer_for(dest: u8, written: Written, room: usize) -> Written
+    requires { ⌜ sizeIn written ≤ mostPayload ⌝ }
+    ensures { λ r. ⌜ r ≡ answerFor dest written room ⌝ }
 {
-    if buffer.len() < size + 4 {
-        return Written::BufferOverflow;
+    if !is_address(dest) {
+        return Written::Refused(Refusal::BadAddress);
     }
-    copy_in(buffer, 3, payload, size);
-    seal(buffer, dest, kind, size)
-}
-
-// The frame of what a record's writer left in the payload, or the record's own refusal.
-fn write_body(buffer: &mut [u8], dest: u8, kind: u8, payload: &[u8], written: Written) -> Written
-    requires { ⌜ (sizeIn written ≤ 60) × (sizeIn written ≤ length (now payload)) ⌝ }
-    ensures { λ r. ⌜ (r, now (buffer .exit)) ≡ writeOf (framedBody dest kind (imageIn written (now (payload .entry)))) (now (buffer .entry)) ⌝ }
-{
     match written {
-        Written::Wrote(size) => put_frame(buffer, dest, kind, payload, size),
-        Written::InvalidPayloadLength => Written::InvalidPayloadLength,
-        Written::BufferOverflow => Written::BufferOverflow,
-        Written::ChannelRange(index) => Written::ChannelRange(index),
-        Written::BadAddress => Written::BadAddress,
+        Written::Wrote(size) => {
+            let whole = size + OVERHEAD;
+            if room < whole {
+                return Written::Refused(Refusal::BufferOverflow);
+            }
+            Written::Wrote(whole)
+        }
+        Written::Refused(refusal) => Written::Refused(refusal),
     }
 }
 
-// The same, where the address is tested first.
+// The frame of what a record's own writer left in the payload.
 pub(crate) fn write_frame(
     buffer: &mut [u8],
     dest: u8,
@@ -79,11 +78,17 @@ pub(crate) fn write_frame(
     payload: &[u8],
     written: Written,
 ) -> Written
-    requires { ⌜ (sizeIn written ≤ 60) × (sizeIn written ≤ length (now payload)) ⌝ }
-    ensures { λ r. ⌜ (r, now (buffer .exit)) ≡ writeOf (framed dest kind (imageIn written (now (payload .entry)))) (now (buffer .entry)) ⌝ }
+    requires { ⌜ (sizeIn written ≤ mostPayload) × (sizeIn written ≤ length (now payload)) ⌝ }
+    ensures { λ r. ⌜ (writtenRow r, now (buffer .exit)) ≡ writeOf (framed dest kind (imageIn written (now (payload .entry)))) (now (buffer .entry)) ⌝ }
 {
-    if !is_address(dest) {
-        return Written::BadAddress;
+    let answer = answer_for(dest, written, buffer.len());
+    match answer {
+        Written::Wrote(whole) => {
+            let size = whole - OVERHEAD;
+            copy_in(buffer, HEAD, payload, size);
+            seal(buffer, dest, kind, size);
+            Written::Wrote(whole)
+        }
+        Written::Refused(refusal) => Written::Refused(refusal),
     }
-    write_body(buffer, dest, kind, payload, written)
 }

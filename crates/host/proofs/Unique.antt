@@ -17,11 +17,11 @@ use Rattle.stream.specs.Seen.{Seen, unplaced, frameAmong, ifRefused, seen}
 use Rattle.stream.specs.declared.step.Answer.{Answer}
 use Rattle.stream.specs.declared.step.Answer.the-variants.{Stop, InPiece, InHeld, InvalidSync, InvalidPacketLength, InvalidCrc, BadState}
 use Rattle.stream.proofs.Unique.{one-lent}
-use Rattle.told.specs.Answer.{packed, lowestFirst}
-use Rattle.told.specs.Call.{toldAnswer, Calls}
-use Rattle.told.specs.Seen.{unpacked, Shown, shown}
-use Rattle.told.proofs.Fits.{Fits, call-fits}
-use Rattle.told.proofs.Packing.{unpack}
+use Rattle.host_answer.specs.Answer.{packed, lowestFirst}
+use Rattle.host_answer.specs.Reply.{answerReply, Calls}
+use Rattle.host_answer.specs.Seen.{unpacked, Shown, shown}
+use Rattle.host_answer.proofs.Fits.{Fits, call-fits}
+use Rattle.host_answer.proofs.Packing.{unpack}
 use Rattle.host.proofs.state.crsf_next_raw_packet.Reads as next-raw-packet
 use Rattle.host.proofs.state.crsf_reset.Reads as reset
 use Rattle.host.proofs.state.crsf_save.Reads as save
@@ -69,10 +69,10 @@ shownOf s = record { answer = unplacedBytes (s .0 .taken) (s .0 .answer); frame 
 abbrev heldBy : List ℕ → List ℕ
 heldBy state = heldIn (drop 2 state) (getD state 0 0) (getD state 1 0)
 
-by-cases : (t : ℕ) (a : Answer) (state : List ℕ) → Fits (toldAnswer t a)
-    → shown (packed (toldAnswer t a)) state
+by-cases : (t : ℕ) (a : Answer) (state : List ℕ) → Fits (answerReply t a)
+    → shown (packed (answerReply t a)) state
     ≡ record { answer = unplacedBytes t (unplaced a); frame = frameAmong a (drop 2 state); held = heldBy state; refused = ifRefused a state }
-unfolding toldAnswer shown unplacedBytes unplaced frameAmong ifRefused
+unfolding answerReply shown unplacedBytes unplaced frameAmong ifRefused
 by-cases t Stop state f = rw (unpack 255 t 0 0 0 (0 ∷ 0 ∷ 0 ∷ []) (lit< tt) (f .0) (lit< tt) (f .1) (f .2))
 by-cases t (InPiece l) state f = rw (unpack 0 t 0 0 l (0 ∷ 0 ∷ 0 ∷ []) (lit< tt) (f .0) (lit< tt) (f .1) (f .2))
 by-cases t (InHeld p l) state f = rw (unpack 0 t 1 (p + 2) l (0 ∷ 0 ∷ 0 ∷ []) (lit< tt) (f .0) (lit< tt) (f .1) (f .2), drop-drop p 2 state, add-comm 2 p)
@@ -86,9 +86,9 @@ pub one-call : (before input : List ℕ) {after after′ : List ℕ} {r r′ : �
 unfolding seen shownOf
 one-call before input {after} {after′} {r} {r′} x y =
     same
-    (ap (λ (n : ℕ). shown n after) (x .told) ∙ by-cases (x .answered .taken) (x .answered .answer) after (call-fits (x .lends))
+    (ap (λ (n : ℕ). shown n after) (x .packs) ∙ by-cases (x .answered .taken) (x .answered .answer) after (call-fits (x .lends))
     ∙ ap shownOf (one-lent before input (x .lends) (y .lends)))
-    (ap (λ (n : ℕ). shown n after′) (y .told) ∙ by-cases (y .answered .taken) (y .answered .answer) after′ (call-fits (y .lends)))
+    (ap (λ (n : ℕ). shown n after′) (y .packs) ∙ by-cases (y .answered .taken) (y .answered .answer) after′ (call-fits (y .lends)))
 
 pub next-raw-packet-one : OneAnswer {Seen = Shown} next-raw-packet.Post (λ κs r s. shown r (now (s .0)))
 next-raw-packet-one κs a r r′ s s′ = one-call (now (a .0)) (now (a .1 .0))

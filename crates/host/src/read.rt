@@ -1,6 +1,13 @@
 // Readers of payloads: a record's numbers, in the order of its fields, at the front of a lent slice. Refusals are 4, then 5; nothing is written then.
-use base::narrow;
 use channels::RcChannelsPacked;
+use host_answer::answer::refuse;
+use host_records::give_baro_altitude;
+use host_records::give_battery;
+use host_records::give_channels;
+use host_records::give_gps;
+use host_records::give_gps_extended;
+use host_records::give_link_statistics;
+use host_records::give_rpm;
 use layout::ReadAnswer;
 use positions::gps::Gps;
 use positions::gps::GpsRead;
@@ -13,16 +20,6 @@ use records::battery::BatteryRead;
 use records::link_statistics::LinkStatistics;
 use records::link_statistics::LinkStatisticsRead;
 use rpm::Rpm;
-use told::answer::placed;
-use told::answer::refuse;
-use values::baro_altitude_values;
-use values::battery_values;
-use values::give;
-use values::give_channels;
-use values::gps_extended_values;
-use values::gps_values;
-use values::link_statistics_values;
-use values::told_rpm;
 ghost use mathlib.Core.Path.{_≡_};
 ghost use Rattle.records.specs.LinkStatistics.{linkStatisticsRead};
 ghost use Rattle.positions.specs.Gps.{gpsRead};
@@ -31,7 +28,7 @@ ghost use Rattle.records.specs.Battery.{batteryRead};
 ghost use Rattle.records.specs.BaroAltitude.{baroAltitudeRead};
 ghost use Rattle.channels.specs.Channels.{channelsRead};
 ghost use Rattle.rpm.specs.Rpm.{rpmRead};
-ghost use Rattle.values.specs.Read.{gives, givesChannels, givesRpm};
+ghost use Rattle.host_records.specs.Read.{gives, givesChannels, givesRpm};
 
 #[no_mangle]
 pub extern "C" fn crsf_read_link_statistics(payload: &[u8], out: &mut [i32]) -> u64
@@ -39,10 +36,7 @@ pub extern "C" fn crsf_read_link_statistics(payload: &[u8], out: &mut [i32]) -> 
 {
     let read = LinkStatistics::from_bytes(payload);
     match read {
-        LinkStatisticsRead::Record(x) => {
-            let values = link_statistics_values(x);
-            give(placed(0, 0, 0, 10), &values, 10, out)
-        }
+        LinkStatisticsRead::Record(x) => give_link_statistics(x, out),
         LinkStatisticsRead::InvalidPayloadLength => refuse(4),
     }
 }
@@ -53,10 +47,7 @@ pub extern "C" fn crsf_read_gps(payload: &[u8], out: &mut [i32]) -> u64
 {
     let read = Gps::from_bytes(payload);
     match read {
-        GpsRead::Record(x) => {
-            let values = gps_values(x);
-            give(placed(0, 0, 0, 6), &values, 6, out)
-        }
+        GpsRead::Record(x) => give_gps(x, out),
         GpsRead::InvalidPayloadLength => refuse(4),
     }
 }
@@ -67,10 +58,7 @@ pub extern "C" fn crsf_read_gps_extended(payload: &[u8], out: &mut [i32]) -> u64
 {
     let read = GpsExtended::from_bytes(payload);
     match read {
-        GpsExtendedRead::Record(x) => {
-            let values = gps_extended_values(x);
-            give(placed(0, 0, 0, 12), &values, 12, out)
-        }
+        GpsExtendedRead::Record(x) => give_gps_extended(x, out),
         GpsExtendedRead::InvalidPayloadLength => refuse(4),
     }
 }
@@ -81,10 +69,7 @@ pub extern "C" fn crsf_read_battery(payload: &[u8], out: &mut [i32]) -> u64
 {
     let read = Battery::from_bytes(payload);
     match read {
-        BatteryRead::Record(x) => {
-            let values = battery_values(x);
-            give(placed(0, 0, 0, 5), &values, 5, out)
-        }
+        BatteryRead::Record(x) => give_battery(x, out),
         BatteryRead::InvalidPayloadLength => refuse(4),
     }
 }
@@ -95,10 +80,7 @@ pub extern "C" fn crsf_read_baro_altitude(payload: &[u8], out: &mut [i32]) -> u6
 {
     let read = BaroAltitude::from_bytes(payload);
     match read {
-        BaroAltitudeRead::Record(x) => {
-            let values = baro_altitude_values(x);
-            give(placed(0, 0, 0, 2), &values, 2, out)
-        }
+        BaroAltitudeRead::Record(x) => give_baro_altitude(x, out),
         BaroAltitudeRead::InvalidPayloadLength => refuse(4),
     }
 }
@@ -123,12 +105,8 @@ pub extern "C" fn crsf_read_rpm(payload: &[u8], out: &mut [i32]) -> u64
     let read = Rpm::from_bytes(payload);
     let answer = read.answer;
     let rpm = read.rpm;
-    let n = rpm.count;
     match answer {
-        ReadAnswer::Record => {
-            let values = rpm.rpm_values;
-            give(told_rpm(narrow(n), rpm.rpm_source_id), &values, n, out)
-        }
+        ReadAnswer::Record => give_rpm(rpm, out),
         ReadAnswer::InvalidPayloadLength => refuse(4),
     }
 }

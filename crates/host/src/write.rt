@@ -1,6 +1,8 @@
 // Writers of whole frames: a record's numbers, each as a parameter of its own, and the frame's address. Refusals are 7, then 4 or 6, then 5; nothing is
 // written then.
 use channels::RcChannelsPacked;
+use host_answer::written::no_record;
+use host_answer::written::wrote;
 use layout::ReadAnswer;
 use positions::gps::Gps;
 use positions::gps_extended::GpsExtended;
@@ -8,8 +10,6 @@ use records::baro_altitude::BaroAltitude;
 use records::battery::Battery;
 use records::link_statistics::LinkStatistics;
 use rpm::Rpm;
-use told::writing::no_record;
-use told::writing::wrote;
 ghost use mathlib.Core.Path.{_≡_};
 ghost use lib.ListN.{length};
 ghost use Rattle.records.specs.LinkStatistics.{linkStatisticsImage};
@@ -17,7 +17,8 @@ ghost use Rattle.positions.specs.Gps.{gpsImage};
 ghost use Rattle.positions.specs.GpsExtended.{gpsExtendedImage};
 ghost use Rattle.records.specs.Battery.{batteryImage};
 ghost use Rattle.records.specs.BaroAltitude.{baroAltitudeImage};
-ghost use Rattle.told.specs.Write.{toldFrame, sixteenImage, newRpmImage};
+ghost use Rattle.host.specs.Write.{linkStatisticsFrom, gpsFrom, gpsExtendedFrom, batteryFrom, baroAltitudeFrom};
+ghost use Rattle.host_answer.specs.Written.{answerFrame, sixteenImage, newRpmImage};
 
 #[no_mangle]
 pub extern "C" fn crsf_write_link_statistics(
@@ -34,7 +35,9 @@ pub extern "C" fn crsf_write_link_statistics(
     downlink_link_quality: u8,
     downlink_snr: i8,
 ) -> u64
-    ensures { λ r. ⌜ (r, now (buffer .exit)) ≡ toldFrame dest 0x14 (linkStatisticsImage (record { «uplink_rssi_1» = «uplink_rssi_1»; «uplink_rssi_2» = «uplink_rssi_2»; «uplink_link_quality» = «uplink_link_quality»; «uplink_snr» = «uplink_snr»; «active_antenna» = «active_antenna»; «rf_mode» = «rf_mode»; «uplink_tx_power» = «uplink_tx_power»; «downlink_rssi» = «downlink_rssi»; «downlink_link_quality» = «downlink_link_quality»; «downlink_snr» = «downlink_snr» })) (now (buffer .entry)) ⌝ }
+    ensures { λ r. ⌜ (r, now (buffer .exit)) ≡ answerFrame dest 0x14 (linkStatisticsImage
+        (linkStatisticsFrom «uplink_rssi_1» «uplink_rssi_2» «uplink_link_quality» «uplink_snr» «active_antenna» «rf_mode»
+        «uplink_tx_power» «downlink_rssi» «downlink_link_quality» «downlink_snr»)) (now (buffer .entry)) ⌝ }
 {
     wrote(frames::write_link_statistics(
         buffer,
@@ -65,7 +68,7 @@ pub extern "C" fn crsf_write_gps(
     altitude: u16,
     satellites: u8,
 ) -> u64
-    ensures { λ r. ⌜ (r, now (buffer .exit)) ≡ toldFrame dest 0x02 (gpsImage (record { latitude = latitude; longitude = longitude; groundspeed = groundspeed; heading = heading; altitude = altitude; satellites = satellites })) (now (buffer .entry)) ⌝ }
+    ensures { λ r. ⌜ (r, now (buffer .exit)) ≡ answerFrame dest 0x02 (gpsImage (gpsFrom latitude longitude groundspeed heading altitude satellites)) (now (buffer .entry)) ⌝ }
 {
     wrote(frames::write_gps(
         buffer,
@@ -98,7 +101,7 @@ pub extern "C" fn crsf_write_gps_extended(
     h_dop: u8,
     v_dop: u8,
 ) -> u64
-    ensures { λ r. ⌜ (r, now (buffer .exit)) ≡ toldFrame dest 0x06 (gpsExtendedImage (record { «fix_type» = «fix_type»; «n_speed» = «n_speed»; «e_speed» = «e_speed»; «v_speed» = «v_speed»; «h_speed_acc» = «h_speed_acc»; «track_acc» = «track_acc»; «alt_ellipsoid» = «alt_ellipsoid»; «h_acc» = «h_acc»; «v_acc» = «v_acc»; reserved = reserved; «h_dop» = «h_dop»; «v_dop» = «v_dop» })) (now (buffer .entry)) ⌝ }
+    ensures { λ r. ⌜ (r, now (buffer .exit)) ≡ answerFrame dest 0x06 (gpsExtendedImage (gpsExtendedFrom «fix_type» «n_speed» «e_speed» «v_speed» «h_speed_acc» «track_acc» «alt_ellipsoid» «h_acc» «v_acc» reserved «h_dop» «v_dop»)) (now (buffer .entry)) ⌝ }
 {
     wrote(frames::write_gps_extended(
         buffer,
@@ -130,7 +133,7 @@ pub extern "C" fn crsf_write_battery(
     remaining: u8,
     id: u8,
 ) -> u64
-    ensures { λ r. ⌜ (r, now (buffer .exit)) ≡ toldFrame dest 0x08 (batteryImage (record { voltage = voltage; current = current; «capacity_used» = «capacity_used»; remaining = remaining; id = id })) (now (buffer .entry)) ⌝ }
+    ensures { λ r. ⌜ (r, now (buffer .exit)) ≡ answerFrame dest 0x08 (batteryImage (batteryFrom voltage current «capacity_used» remaining id)) (now (buffer .entry)) ⌝ }
 {
     wrote(frames::write_battery(
         buffer,
@@ -152,7 +155,7 @@ pub extern "C" fn crsf_write_baro_altitude(
     altitude_packed: u16,
     vertical_speed_packed: i8,
 ) -> u64
-    ensures { λ r. ⌜ (r, now (buffer .exit)) ≡ toldFrame dest 0x09 (baroAltitudeImage (record { «altitude_packed» = «altitude_packed»; «vertical_speed_packed» = «vertical_speed_packed» })) (now (buffer .entry)) ⌝ }
+    ensures { λ r. ⌜ (r, now (buffer .exit)) ≡ answerFrame dest 0x09 (baroAltitudeImage (baroAltitudeFrom «altitude_packed» «vertical_speed_packed»)) (now (buffer .entry)) ⌝ }
 {
     wrote(frames::write_baro_altitude(
         buffer,
@@ -182,7 +185,7 @@ pub extern "C" fn crsf_write_rc_channels_packed(
     dest: u8,
     channels: &[u16],
 ) -> u64
-    ensures { λ r. ⌜ (r, now (buffer .exit)) ≡ toldFrame dest 0x16 (sixteenImage (now (channels .entry))) (now (buffer .entry)) ⌝ }
+    ensures { λ r. ⌜ (r, now (buffer .exit)) ≡ answerFrame dest 0x16 (sixteenImage (now (channels .entry))) (now (buffer .entry)) ⌝ }
 {
     if channels.len() != 16 {
         return wrote(no_record(dest));
@@ -198,7 +201,7 @@ pub extern "C" fn crsf_write_rpm(
     rpm_source_id: u8,
     rpm_values: &[i32],
 ) -> u64
-    ensures { λ r. ⌜ (r, now (buffer .exit)) ≡ toldFrame dest 0x0C (newRpmImage «rpm_source_id» (now («rpm_values» .entry))) (now (buffer .entry)) ⌝ }
+    ensures { λ r. ⌜ (r, now (buffer .exit)) ≡ answerFrame dest 0x0C (newRpmImage «rpm_source_id» (now («rpm_values» .entry))) (now (buffer .entry)) ⌝ }
 {
     let made = Rpm::new(rpm_source_id, rpm_values);
     let answer = made.answer;

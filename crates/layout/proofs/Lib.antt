@@ -1,2 +1,6 @@
-pub mod Writing
 pub mod Fields
+pub mod Carried
+pub mod Writers
+pub mod Readers
+pub mod Known
+pub mod Laws

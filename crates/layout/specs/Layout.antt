@@ -1,4 +1,4 @@
--- Document 01, "Record layouts": a fixed layout is the list of its fields, and reading and writing go by the list.
+-- A fixed layout is the list of its fields, and reading and writing go by the list (RULES 10).
 -- Assumes nothing.
 use Prim.Native.Nat.{ℕ, _+_, _^_, _<_}
 use mathlib.Core.Path.{_≡_}
@@ -13,7 +13,7 @@ use Rattle.numbers.specs.BigEndian.{beOf, bytesOf}
 use Rattle.numbers.specs.TwosComplement.{signedOf, twosOf, InRange}
 use Rattle.base.specs.Parts.{part}
 
--- a field is a number of so many bytes, highest byte first, signed or not
+-- a field is a number of that many bytes, highest byte first, signed or not
 pub record Field : Type 0 where
   pub sign : Bool
   pub width : ℕ

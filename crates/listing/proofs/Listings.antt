@@ -1,20 +1,37 @@
 -- The listing, call by call.
 -- Assumes nothing.
-use mathlib.Core.Path.{_≡_, sym, ap, ap₂, _∙_}
-use mathlib.Core.List.{List, [], _∷_, _++_, append-assoc}
+use mathlib.Core.Path.{_≡_, refl, sym, ap, ap₂, _∙_}
+use mathlib.Core.List.{List, [], _∷_, _++_, append-assoc, append-nil}
 use Prim.Native.Nat.{ℕ, _+_, _-_, _≤_, _<_}
 use native.Mathlib.Nat.{add-assoc}
-use native.Mathlib.Omega.{arith}
 use borrow.Author.Tests.{lt-ltb, le-ltb}
-use lib.ListN.{length, drop, length-drop}
+use lib.ListN.{length, drop}
 use Rattle.reading.specs.Answer.{Answer, drops}
-use Rattle.reading.specs.Reading.{stop, says, first, Reading, reading}
+use Rattle.reading.specs.Reading.{First, stop, says, first, Reading, reading}
 use Rattle.reading.specs.Call.{droppedBy, call}
-use Rattle.reading.proofs.First.{stands}
+use Rattle.reading.specs.History.{answered}
 use Rattle.reading.proofs.Reading as read
 use Rattle.reading.proofs.Call.{answers-first, rest}
-use Rattle.lines.specs.Lines.{line, longest}
+use Rattle.lines.specs.Lines.{line, linesOf, longest}
 use Rattle.listing.specs.Listing.{Listing, after, full, asking, listFrom, listOf}
+
+-- ---- Lines
+
+pub linesOf-append : (xs ys : List Answer) → linesOf (xs ++ ys) ≡ linesOf xs ++ linesOf ys
+unfolding linesOf
+linesOf-append [] ys = refl
+linesOf-append (a ∷ xs) ys = ap (λ (l : List ℕ). line a ++ l) (linesOf-append xs ys) ∙ sym (append-assoc (line a) (linesOf xs) (linesOf ys))
+
+-- of a call: no line where it asks for more, and else that of its answer
+pub no-line : {f : First} → f ≡ stop → linesOf (answered f) ≡ []
+unfolding answered linesOf
+no-line e = ap (λ (f : First). linesOf (answered f)) e
+
+pub one-line : {f : First} (a : Answer) → f ≡ says a → linesOf (answered f) ≡ line a
+unfolding answered linesOf
+one-line a e = ap (λ (f : First). linesOf (answered f)) e ∙ append-nil (line a)
+
+-- ---- The listing, one call after another
 
 -- two runs of lines are one
 pub after-after : (l k : List ℕ) (n j : ℕ) (more : Listing) → after l n (after k j more) ≡ after (l ++ k) (n + j) more
@@ -60,7 +77,3 @@ module _ (m : ℕ) (held input : List ℕ) where
         ≡ (let c = call m held input in after (line a) (c .taken) (listOf m (c .held) (drop (c .taken) input) (room - length (line a))))
     unfolding listOf listFrom
     at-says room h = ap (λ (all : List Answer). listFrom m all held input room) answers-are ∙ simp (le-ltb room longest h)
-
-    -- an answer leaves fewer bytes
-    pub fewer : length left < length (held ++ input)
-    fewer = let s = stands m (held ++ input) a stands-first in omega (arith, ap length left-is, length-drop (drops a) (held ++ input))

@@ -11,7 +11,7 @@ use Rattle.base.proofs.Unique.{OneAnswer}
 use Rattle.stream.specs.Places.{heldIn}
 use Rattle.stream.specs.Step.{isSpan}
 use Rattle.listing.specs.Listing.{Listing}
-use Rattle.listing.specs.Drain.{statusOf, Drains, Lists}
+use Rattle.listing.specs.Fill.{statusOf, Fills, Lists}
 use Rattle.listing.specs.declared.Listed.{Listed}
 use Rattle.listing.specs.declared.Status.{Status}
 use Rattle.listing.proofs.list_in.Reads as list-in
@@ -27,7 +27,7 @@ pub record Shows : Type 0 where
 abbrev pub shows : Listed → List ℕ → List ℕ → Shows
 shows r places out = record { held = heldIn places (r .start) (r .end); taken = r .taken; written = r .written; status = r .status; buffer = out }
 
-by-promise : {m : ℕ} {l : Listing} {input out places outAfter : List ℕ} {r : Listed} → Drains m l input out places outAfter r
+by-promise : {m : ℕ} {l : Listing} {input out places outAfter : List ℕ} {r : Listed} → Fills m l input out places outAfter r
     → shows r places outAfter
     ≡ record { held = l .held; taken = l .taken; written = length (l .lines); status = statusOf (l .asks); buffer = pasted out 0 (l .lines) }
 by-promise d =
@@ -38,12 +38,12 @@ by-promise d =
     let w = d .buffer in
     cc
 
-one-listing : (m : ℕ) (before : List ℕ) (start end : ℕ) (input out : List ℕ) {places places′ outAfter outAfter′ : List ℕ} {r r′ : Listed}
-    → Lists m before start end input out places outAfter r → Lists m before start end input out places′ outAfter′ r′
+one-listing : (before : List ℕ) (start end : ℕ) (input out : List ℕ) {places places′ outAfter outAfter′ : List ℕ} {r r′ : Listed}
+    → Lists before start end input out places outAfter r → Lists before start end input out places′ outAfter′ r′
     → shows r places outAfter ≡ shows r′ places′ outAfter′
-one-listing m before start end input out a b =
-    by-test (isSpan m start end)
-    (λ good. by-promise (a .drains good) ∙ sym (by-promise (b .drains good)))
+one-listing before start end input out a b =
+    by-test (isSpan (length before) start end)
+    (λ good. by-promise (a .fills good) ∙ sym (by-promise (b .fills good)))
     (λ bad.
     let p = a .refuses bad in
     let q = b .refuses bad in
@@ -56,4 +56,4 @@ one-listing m before start end input out a b =
     cc)
 
 pub list-in-one : OneAnswer {Seen = Shows} list-in.Post (λ κs r s. shows r (now (s .0)) (now (s .1 .1 .1 .1 .0)))
-list-in-one κs a r r′ s s′ = one-listing _ _ _ _ _ _
+list-in-one κs a r r′ s s′ = one-listing _ _ _ _ _

@@ -1,4 +1,5 @@
+-- `Listing`: the definition. `Fill`: the promise of the code. `Whole`: all that the program writes. `Examples`: inputs and their texts.
 pub mod Listing
-pub mod Drain
+pub mod Fill
 pub mod Whole
 pub mod Examples

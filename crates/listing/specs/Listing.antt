@@ -1,4 +1,4 @@
--- The lines of the answers to the held bytes and then an input, as many as there is room for: the promise of the listing.
+-- The lines of the answers to the held bytes and then an input, as many as there is room for (RULES 13).
 -- Assumes nothing.
 use Prim.Native.Nat.{ℕ, _+_, _-_}
 use mathlib.Core.Bool.{Bool, true, false}

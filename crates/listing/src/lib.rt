@@ -1,5 +1,8 @@
 // The lines of the answers to an input, as many as a buffer that the caller lends has room for.
+use lines::line::LONGEST;
 use lines::line::put_line;
+use refusals::Refusal;
+use stream::step::Moved;
 use stream::step::asks_for_more;
 use stream::step::is_span;
 use stream::step::step_in;
@@ -7,11 +10,9 @@ ghost use mathlib.Core.Path.{_≡_};
 ghost use mathlib.Core.Bool.{true};
 ghost use Prim.Native.Nat.{_+_, _≤_};
 ghost use lib.ListN.{length};
-ghost use Rattle.stream.specs.Places.{heldIn};
 ghost use Rattle.stream.specs.Step.{isSpan};
 ghost use Rattle.lines.specs.Lines.{longest};
-ghost use Rattle.listing.specs.Listing.{listOf};
-ghost use Rattle.listing.specs.Drain.{Turns, Drains, Lists};
+ghost use Rattle.listing.specs.Fill.{Turns, Lists};
 
 // Why a listing ended.
 pub enum Status {
@@ -19,8 +20,8 @@ pub enum Status {
     More,
     // The buffer has no room for the longest line.
     Full,
-    // The state is not one: nothing was changed.
-    BadState,
+    // Nothing was changed.
+    Refused(Refusal),
 }
 
 // Where the held bytes stand now, how many bytes of the input were taken, and how many were written.
@@ -32,16 +33,12 @@ pub struct Listed {
     pub status: Status,
 }
 
-// The same after one call of the stream, with the place behind its line.
+// One call of the stream, and the place behind its line.
 struct Turn {
-    start: usize,
-    end: usize,
-    taken: usize,
+    moved: Moved,
     at: usize,
-    asks: bool,
 }
 
-// One call, and its line.
 fn list_one(
     places: &mut [u8],
     start: usize,
@@ -51,36 +48,32 @@ fn list_one(
     at: usize,
 ) -> Turn
     requires { ⌜ (isSpan (length (now places)) start end ≡ true) × (at + longest ≤ length (now out)) ⌝ }
-    ensures { λ r. ⌜ Turns (length (now (places .entry))) (heldIn (now (places .entry)) start end) (now (input .entry)) (now (out .entry)) at (now (places .exit)) (now (out .exit)) r ⌝ }
+    ensures { λ r. ⌜ Turns (now (places .entry)) start end (now (input .entry)) (now (out .entry)) at (now (places .exit)) (now (out .exit)) r ⌝ }
 {
     let moved = step_in(places, start, end, input);
-    let answer = moved.answer;
-    let next = put_line(answer, input, places, out, at);
-    let asks = asks_for_more(answer);
-    Turn {
-        start: moved.start,
-        end: moved.end,
-        taken: moved.taken,
-        at: next,
-        asks,
-    }
+    let reply = moved.reply;
+    let next = put_line(reply, input, places, out, at);
+    Turn { moved, at: next }
 }
 
-fn drain(places: &mut [u8], start: usize, end: usize, input: &[u8], out: &mut [u8]) -> Listed
+// Calls, while there is room for the longest line.
+fn fill(places: &mut [u8], start: usize, end: usize, input: &[u8], out: &mut [u8]) -> Listed
     requires { ⌜ isSpan (length (now places)) start end ≡ true ⌝ }
-    ensures { λ r. ⌜ Drains (length (now (places .entry))) (listOf (length (now (places .entry))) (heldIn (now (places .entry)) start end) (now (input .entry)) (length (now (out .entry)))) (now (input .entry)) (now (out .entry)) (now (places .exit)) (now (out .exit)) r ⌝ }
+    ensures { λ r. ⌜ Lists (now (places .entry)) start end (now (input .entry)) (now (out .entry)) (now (places .exit)) (now (out .exit)) r ⌝ }
 {
     let mut from = start;
     let mut to = end;
     let mut taken = 0;
     let mut at = 0;
-    while 16 <= out.len() - at {
+    while LONGEST <= out.len() - at {
         let one = list_one(places, from, to, &input[taken..], out, at);
-        from = one.start;
-        to = one.end;
-        taken += one.taken;
+        let moved = one.moved;
+        from = moved.start;
+        to = moved.end;
+        taken += moved.taken;
         at = one.at;
-        if one.asks {
+        let reply = moved.reply;
+        if asks_for_more(reply) {
             return Listed {
                 start: from,
                 end: to,
@@ -101,7 +94,7 @@ fn drain(places: &mut [u8], start: usize, end: usize, input: &[u8], out: &mut [u
 
 // The lines of the answers to the held bytes and then the input.
 pub fn list_in(places: &mut [u8], start: usize, end: usize, input: &[u8], out: &mut [u8]) -> Listed
-    ensures { λ r. ⌜ Lists (length (now (places .entry))) (now (places .entry)) start end (now (input .entry)) (now (out .entry)) (now (places .exit)) (now (out .exit)) r ⌝ }
+    ensures { λ r. ⌜ Lists (now (places .entry)) start end (now (input .entry)) (now (out .entry)) (now (places .exit)) (now (out .exit)) r ⌝ }
 {
     if !is_span(places.len(), start, end) {
         return Listed {
@@ -109,8 +102,8 @@ pub fn list_in(places: &mut [u8], start: usize, end: usize, input: &[u8], out: &
             end,
             taken: 0,
             written: 0,
-            status: Status::BadState,
+            status: Status::Refused(Refusal::BadState),
         };
     }
-    drain(places, start, end, input, out)
+    fill(places, start, end, input, out)
 }

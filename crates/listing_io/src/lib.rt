@@ -1,18 +1,21 @@
 // The listing of standard input on standard output, through fixed buffers. What is read and written is outside any contract; what is listed of it
-// is the promise of `listing`. A read or a write that fails ends it, and is told on standard error.
+// is the promise of `listing`. A read or a write that fails ends it, and is reported on standard error.
 use libc::STDERR_FILENO;
 use libc::STDIN_FILENO;
 use libc::STDOUT_FILENO;
+use lines::line::LONGEST;
 use lines::line::list_held;
 use listing::Status;
 use listing::list_in;
+use stream::LIMIT;
 ghost use Prim.Native.Nat.{_≤_, _<_};
 ghost use lib.ListN.{length};
+ghost use Rattle.reading.specs.Reading.{limit};
 ghost use Rattle.listing_io.specs.State.{Sound, Ends};
 
 // How a listing ended.
 pub enum Ended {
-    // All of the input is listed, with the line of so many held bytes.
+    // All of the input is listed, with the line of that many held bytes.
     Listed(u8),
     // The input was not read to its end.
     ReadFailed,
@@ -92,7 +95,7 @@ fn list_part(
                 is_done: !is_written,
             }
         }
-        Status::BadState => Part {
+        Status::Refused(_) => Part {
             start,
             end,
             at,
@@ -210,14 +213,14 @@ fn list_reads(places: &mut [u8], out: &mut [u8]) -> State
 }
 
 fn write_held(held: u8) -> bool {
-    let mut line = [0u8; 16];
+    let mut line = [0u8; LONGEST];
     let n = list_held(&mut line, held);
     io::write_all(STDOUT_FILENO, &line[..n])
 }
 
 // The last line, where the input has ended.
 fn list_end(next: Next, held: u8) -> Ended
-    requires { ⌜ held < 64 ⌝ }
+    requires { ⌜ held < limit ⌝ }
     ensures { λ r. ⌜ Ends r ⌝ }
 {
     match next {
@@ -237,7 +240,7 @@ fn list_end(next: Next, held: u8) -> Ended
 fn list_all() -> Ended
     ensures { λ r. ⌜ Ends r ⌝ }
 {
-    let mut places = [0u8; 64];
+    let mut places = [0u8; LIMIT];
     let mut out = io::large_buffer();
     let state = list_reads(&mut places, &mut out);
     let at = state.at;
@@ -248,7 +251,7 @@ fn list_all() -> Ended
     list_end(next, (state.end - state.start) as u8)
 }
 
-fn tell(ended: Ended) {
+fn report(ended: Ended) {
     match ended {
         Ended::Listed(_) => {}
         Ended::ReadFailed => {
@@ -264,6 +267,6 @@ pub fn list_input() -> Ended
     ensures { λ r. ⌜ Ends r ⌝ }
 {
     let ended = list_all();
-    tell(ended);
+    report(ended);
     ended
 }

@@ -1,16 +1,14 @@
--- The promise leaves one answer, number and values: bits whose exact number is known are known.
+-- The promise leaves one row: bits whose exact number is known are known.
 -- Assumes nothing.
 use mathlib.Core.Path.{_≡_, sym, ap, _∙_, subst₂}
-use mathlib.Core.List.{List, [], _∷_}
+use mathlib.Core.List.{List}
+use mathlib.Core.Logic.{inl, inr}
 use Prim.Native.Nat.{ℕ, _+_, _*_, _/_, _%_, _^_, _≤_, _<_}
 use native.Mathlib.Nat.{lt-irrefl, lt-of-lt-of-le, lt-of-not-le, le-antisymm, le-of-suc-le-suc, mul-le-mul, mul-lt-mul-of-pos-right, mul-assoc, eq-of-mul-eq-mul-right, pow-succ'}
 use native.Mathlib.Omega.{arith}
-use lib.Ieee.{binary32, toBits}
 use lib.Pow.{pow-pos, pow-mono}
 use Rattle.base.proofs.Unique.{OneAnswer, same}
-use Rattle.micros.specs.Micros.{number, values, EightTimes, eighths, Answers}
-use Rattle.micros.specs.declared.Microseconds.{Microseconds}
-use Rattle.micros.specs.declared.Microseconds.the-variants.{Exact, ChannelRange}
+use Rattle.micros.specs.Micros.{exactRow, microsecondsRow, EightTimes, eighths, Answers}
 use Rattle.micros.proofs.to_microseconds.Reads as to-microseconds
 
 -- of two equal numbers, one with at most 24 digits before its power of 2 has no lower a power than one with at least 24
@@ -34,13 +32,11 @@ one-pattern b b′ n p q =
     let digits : m ≡ m′ = eq-of-mul-eq-mul-right (2 ^ e′) (pow-pos e′) m m′ (ap (λ (k : ℕ). m * 2 ^ k) (sym power) ∙ same) in
     omega (arith, power, digits)
 
-one : (x : ℕ) (r r′ : Microseconds) → Answers x r → Answers x r′ → _≡_ {A = ℕ × List ℕ} (number r, values r) (number r′, values r′)
-unfolding number values
-one x (Exact f) (Exact g) p q =
-    ap (λ (bits : ℕ). (0, bits ∷ [])) (one-pattern (toBits binary32 f) (toBits binary32 g) (eighths x) (p .1) (q .1))
-one x (Exact f) (ChannelRange i) p q = absurd (omega arith)
-one x (ChannelRange i) (Exact f) p q = absurd (omega arith)
-one x (ChannelRange i) (ChannelRange j) p q = ap (λ (k : ℕ). (6, k ∷ [])) (same (p .1) (q .1))
+one : (x : ℕ) {row row′ : List ℕ} → Answers x row → Answers x row′ → row ≡ row′
+one x (inl p) (inl q) = p .said ∙ ap exactRow (one-pattern (p .bits) (q .bits) (eighths x) (p .exact) (q .exact)) ∙ sym (q .said)
+one x (inl p) (inr q) = absurd (omega (arith, p .within, q .above))
+one x (inr p) (inl q) = absurd (omega (arith, p .above, q .within))
+one x (inr p) (inr q) = same (p .said) (q .said)
 
-pub to-microseconds-one : OneAnswer {Seen = ℕ × List ℕ} to-microseconds.Post (λ κs r s. (number r, values r))
-to-microseconds-one κs a r r′ s s′ = one (a .0) r r′
+pub to-microseconds-one : OneAnswer {Seen = List ℕ} to-microseconds.Post (λ κs r s. microsecondsRow r)
+to-microseconds-one κs a r r′ s s′ = one (a .0)

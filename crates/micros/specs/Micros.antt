@@ -1,21 +1,23 @@
--- Document 01, "Record layouts": "A raw x means (x − 992) · 5 / 8 + 1500 microseconds as f32: read from the float's own bits, its exact number
--- times 8 is 5x + 7040, for x up to 2047."
+-- A raw channel value x means (x − 992) · 5 / 8 + 1500 microseconds, as an f32 (RULES 12): read from the float's own bits, its exact number times 8
+-- is 5 x + 7040, for x up to 2047.
 -- Assumes nothing.
 use mathlib.Core.Path.{_≡_}
 use mathlib.Core.List.{List, [], _∷_}
+use mathlib.Core.Logic.{_⊎_}
 use Prim.Native.Nat.{ℕ, _+_, _*_, _/_, _%_, _^_, _<_, _≤_}
 use lib.Ieee.{binary32, toBits}
+use Rattle.refusals.specs.Row.{rowOf}
+use Rattle.refusals.specs.declared.Refusal.the-variants.{ChannelRange}
 use Rattle.micros.specs.declared.Microseconds.{Microseconds}
-use Rattle.micros.specs.declared.Microseconds.the-variants.{Exact, ChannelRange}
+use Rattle.micros.specs.declared.Microseconds.the-variants.{Exact, Refused}
 
--- the answer's number, and what it carries: the float's own bits, or an index
-unfoldable pub number : Microseconds → ℕ
-number (Exact f) = 0
-number (ChannelRange i) = 6
+-- what is said, as a row: 0 and the float's own bits, or the refusal's number and what it carries
+abbrev pub exactRow : ℕ → List ℕ
+exactRow bits = 0 ∷ bits ∷ []
 
-unfoldable pub values : Microseconds → List ℕ
-values (Exact f) = toBits binary32 f ∷ []
-values (ChannelRange i) = i ∷ []
+unfoldable pub microsecondsRow : Microseconds → List ℕ
+microsecondsRow (Exact f) = exactRow (toBits binary32 f)
+microsecondsRow (Refused r) = rowOf r
 
 -- The bits of an f32, as whole numbers: the sign is bit 31, the exponent's field e is bits 23 to 30, the digits t are bits 0 to 22.
 -- With the sign clear and e from 1 to 254 they stand for the number (2 ^ 23 + t) * 2 ^ e / 2 ^ 150. Eight times that is n:
@@ -28,7 +30,19 @@ pub record EightTimes (bits n : ℕ) : Type 0 where
 abbrev pub eighths : ℕ → ℕ
 eighths x = 5 * x + 7040
 
--- up to 2047 the exact number, above it refusal 6 with index 0
-abbrev pub Answers : ℕ → Microseconds → Type 0
-Answers x (Exact f) = (x ≤ 2047) × EightTimes (toBits binary32 f) (eighths x)
-Answers x (ChannelRange i) = (2047 < x) × (i ≡ 0)
+abbrev pub greatest : ℕ
+greatest = 2047
+
+-- up to 2047 the exact number, above it the refusal of channel 0
+pub record Exactly (x : ℕ) (row : List ℕ) : Type 0 where
+  pub within : x ≤ greatest
+  pub bits : ℕ
+  pub said : row ≡ exactRow bits
+  pub exact : EightTimes bits (eighths x)
+
+pub record TooLarge (x : ℕ) (row : List ℕ) : Type 0 where
+  pub above : greatest < x
+  pub said : row ≡ rowOf (ChannelRange 0)
+
+abbrev pub Answers : ℕ → List ℕ → Type 0
+Answers x row = Exactly x row ⊎ TooLarge x row

@@ -1,5 +1,5 @@
--- Where a call answers with a frame, the thin function over the two lent slices returns that frame's bytes, and of the slice that document 01
--- says: the held bytes' places where some were held at the start of the call, else the caller's piece. Assumes nothing.
+-- Where a call's answer is a frame, `view::frame` returns that frame's bytes, and of the slice that RULES 6.5 says: the held bytes' places where
+-- some were held at the start of the call, else the caller's piece. Assumes nothing.
 use mathlib.Core.Path.{_≡_, ap, _∙_}
 use mathlib.Core.Bool.{Bool, true}
 use mathlib.Core.List.{List}
@@ -7,9 +7,10 @@ use Prim.Native.Nat.{ℕ}
 use lib.Dec.{ltb}
 use lib.ListN.{length}
 use Rattle.reading.specs.Answer.{Frame}
-use Rattle.reading.specs.Reading.{First, says}
+use Rattle.reading.specs.Reading.{First, says, limit}
 use Rattle.reading.specs.Call.{call}
-use Rattle.stream.specs.Step.{frame, saidOf, Outcome}
+use Rattle.stream.specs.Step.{frame, saidOf}
+use Rattle.stream.proofs.Drain.{said-is}
 use Rattle.parser.specs.declared.CrsfParser.{CrsfParser}
 use Rattle.parser.specs.declared.Stepped.{Stepped}
 use Rattle.parser.specs.Parser.{heldBy, isState, Nexts}
@@ -22,16 +23,14 @@ unfolding saidOf
 said-frame b c e = ap (saidOf b) e
 
 module _ {p : CrsfParser} {input : List ℕ} {r : Stepped} {c : List ℕ} (good : isState p ≡ true) (n : Nexts p input r)
-    (e : call 64 (heldBy p) input .answer ≡ says (Frame c)) where
-  both : (ofHeld (r .answered .answer) ≡ ltb 0 (length (heldBy p))) × (frameOf (r .answered .answer) input (r .parser .buffer) ≡ c)
-  both =
-      pointed (r .answered .answer) input (r .parser .buffer)
-      (ap (λ (o : Outcome). o .said) (moves-on good n .outcome) ∙ said-frame (ltb 0 (length (heldBy p))) c e)
+    (e : call limit (heldBy p) input .answer ≡ says (Frame c)) where
+  both : (ofHeld (r .replied .reply) ≡ ltb 0 (length (heldBy p))) × (frameOf (r .replied .reply) input (r .parser .buffer) ≡ c)
+  both = pointed (r .replied .reply) input (r .parser .buffer) (said-is (moves-on good n) ∙ said-frame (ltb 0 (length (heldBy p))) c e)
 
   -- these are the frame's bytes
-  pub frame-bytes : frameOf (r .answered .answer) input (r .parser .buffer) ≡ c
+  pub frame-bytes : frameOf (r .replied .reply) input (r .parser .buffer) ≡ c
   frame-bytes = both .1
 
   -- and of the held bytes where something was held
-  pub frame-from : ofHeld (r .answered .answer) ≡ ltb 0 (length (heldBy p))
+  pub frame-from : ofHeld (r .replied .reply) ≡ ltb 0 (length (heldBy p))
   frame-from = both .0

@@ -1,20 +1,23 @@
--- What a parser holds: nothing when it is new or reset, and after a call a state again. Assumes nothing.
-use mathlib.Core.Path.{_≡_, refl, ap, ap₂, sym}
-use mathlib.Core.Bool.{true, _&&_}
+-- What a parser holds: nothing when it is new or reset, after a call a state again, and after a call that asks for more, less than a frame.
+-- Assumes nothing.
+use mathlib.Core.Path.{_≡_, refl, sym}
+use mathlib.Core.Bool.{true}
 use mathlib.Core.List.{List, []}
-use Prim.Native.Nat.{ℕ, _≤_}
-use native.Mathlib.Omega.{arith}
-use borrow.Author.Tests.{le-leb}
+use Prim.Native.Nat.{ℕ, _-_, _≤_}
 use lib.ListN.{length}
-use Rattle.base.proofs.Tests.{by-test}
-use Rattle.reading.proofs.Call.{call-takes}
-use Rattle.stream.specs.Step.{Moves, Outcome}
-use Rattle.stream.specs.declared.step.Moved.{Moved}
+use Rattle.reading.specs.Reading.{limit}
+use Rattle.reading.specs.History.{begin, offer}
+use Rattle.reading.proofs.History.{faithful}
+use Rattle.stream.specs.Step.{Moves}
+use Rattle.stream.specs.declared.step.Reply.the-variants.{More}
+use Rattle.stream.specs.declared.step.Replied.{Replied}
 use Rattle.stream.proofs.Spans.{span-bounds}
 use Rattle.stream.proofs.Held.{length-held}
+use Rattle.stream.proofs.Bounds.{taken-bound, still-span}
+use Rattle.stream.proofs.Drain.{asks, held-is}
 use Rattle.parser.specs.declared.CrsfParser.{CrsfParser}
 use Rattle.parser.specs.declared.Stepped.{Stepped}
-use Rattle.parser.specs.Parser.{empty, resetOf, heldBy, heldCount, isState, movedTo, Nexts}
+use Rattle.parser.specs.Parser.{empty, resetOf, heldBy, heldCount, isState, stepped, movedTo, Nexts}
 
 pub empty-holds : heldBy empty ≡ []
 unfolding empty
@@ -26,24 +29,30 @@ module _ (p : CrsfParser) where
   reset-holds = refl
 
   -- the count is that of the held bytes
-  pub counted : isState p ≡ true → length (p .buffer) ≡ 64 → heldCount p ≡ length (heldBy p)
+  pub counted : isState p ≡ true → length (p .buffer) ≡ limit → heldCount p ≡ length (heldBy p)
   unfolding heldCount
   counted good full =
-      let b = span-bounds 64 (p .start) (p .end) good in
+      let b = span-bounds limit (p .start) (p .end) good in
       sym (length-held (p .buffer) (p .start) (p .end) (b .1 .0) (rw full (b .1 .1)))
 
--- a call on a state leaves a state
+-- one call, by value or of a lent parser: the promise is the same
 module _ {p : CrsfParser} {input : List ℕ} {r : Stepped} (good : isState p ≡ true) (n : Nexts p input r) where
-  pub moves-on : Moves 64 (p .buffer) (p .start) (p .end) input (r .parser .buffer) (movedTo r)
+  pub moves-on : Moves limit (p .buffer) (p .start) (p .end) input (r .parser .buffer) (movedTo r)
   moves-on = n .moves good
 
+  -- a call on a state leaves a state
   pub still-state : isState (r .parser) ≡ true
-  still-state =
-      ap₂ _&&_ (le-leb (r .parser .start) (r .parser .end) (moves-on .ordered)) (le-leb (r .parser .end) 64 (moves-on .inside))
+  still-state = still-span n good
+
+  -- where it asks for more, fewer bytes are held than the limit: at most 63
+  pub short : r .replied .reply ≡ More → length (heldBy (r .parser)) ≤ limit - 1
+  short e = rw (held-is moves-on) (faithful (offer input (begin (heldBy p))) .short (span-bounds limit (p .start) (p .end) good .0) (asks moves-on e))
+
+-- the same of a lent parser, which is q after the call
+pub lent-short : {p q : CrsfParser} {input : List ℕ} {a : Replied} → isState p ≡ true → Nexts p input (stepped q a) → a .reply ≡ More
+    → length (heldBy q) ≤ limit - 1
+lent-short = short
 
 -- a call takes no more than there is, whatever the state
-pub takes-within : {p : CrsfParser} {input : List ℕ} {r : Stepped} → Nexts p input r → r .answered .taken ≤ length input
-takes-within {p} {input} n =
-    by-test (isState p)
-    (λ good. let t = ap (λ (o : Outcome). o .taken) (n .moves good .outcome) in omega (arith, call-takes 64 (heldBy p) input))
-    (λ bad. let t = ap (λ (x : Moved). x .taken) (n .refuses bad .0) in omega arith)
+pub takes-within : {p : CrsfParser} {input : List ℕ} {r : Stepped} → Nexts p input r → r .replied .taken ≤ length input
+takes-within n = taken-bound n .0

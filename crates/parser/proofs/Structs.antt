@@ -1,26 +1,24 @@
--- The crate's structs as the walks take them (`Walk.antt`). No walk looks at the fields of a parser or of what a call says, so a field more there
--- changes no walk. Assumes nothing.
+-- The crate's structs as the walks of crate `by_hand` take them. No walk looks at the fields of a parser or of what a call says, so a field more
+-- there changes no walk. Assumes nothing.
 use denote.Struct.Laws as LL
 use mathlib.Core.Path.{refl}
 use Rattle.parser.proofs.CrsfParser as P
 use Rattle.parser.proofs.CrsfParser.Laws as P′
-use Rattle.stream.proofs.step.Answered as R
-use Rattle.stream.proofs.step.Answered.Laws as R′
+use Rattle.stream.proofs.step.Replied as R
+use Rattle.stream.proofs.step.Replied.Laws as R′
 use Rattle.parser.proofs.Stepped as S
 use Rattle.parser.proofs.Stepped.Laws as S′
-use Rattle.parser.proofs.Told.{Plain, of-struct}
-use Rattle.parser.proofs.InPlace.{Pair}
-use Rattle.parser.proofs.Walk.{PlainStruct}
+use Rattle.parser.specs.Parser.{stepped}
+use Rattle.by_hand.proofs.Structs.{PlainStruct}
+use Rattle.by_hand.proofs.Results.{Plain, of-struct}
+use Rattle.by_hand.proofs.Forms.{Pair}
 
 abbrev pub Parser : PlainStruct
 Parser = record { type = P.the-type; laws = P′.the-laws; plain = P′.the-plain; copy = P′.the-copy }
 
-abbrev pub Told : PlainStruct
-Told = record { type = R.the-type; laws = R′.the-laws; plain = R′.the-plain; copy = R′.the-copy }
-
--- what a call says, as the walk in place takes it
+-- what a call says
 abbrev pub Says : Plain
-Says = of-struct Told
+Says = of-struct (record { type = R.the-type; laws = R′.the-laws; plain = R′.the-plain; copy = R′.the-copy })
 
 abbrev pub After : PlainStruct
 After = record { type = S.the-type; laws = S′.the-laws; plain = S′.the-plain; copy = S′.the-copy }
@@ -29,10 +27,13 @@ After = record { type = S.the-type; laws = S′.the-laws; plain = S′.the-plain
 abbrev pub steps : Pair After Parser Says
 steps = record {
   name = S.the-type .name;
-  parser = λ r. r .parser;
-  told = λ r. r .answered;
+  first = λ r. r .parser;
+  second = λ r. r .replied;
+  both = stepped;
   mir-is = refl;
   val-is = λ r. refl;
-  parser-stands = λ r is. LL.owed S.the-type S′.the-laws r _ is .0;
-  told-stands = λ r is. LL.owed S.the-type S′.the-laws r _ is .1 .0;
+  val-both = λ p r. refl;
+  first-stands = λ r is. LL.owed S.the-type S′.the-laws r _ is .0;
+  second-stands = λ r is. LL.owed S.the-type S′.the-laws r _ is .1 .0;
+  both-stand = λ p r st is. LL.owes S.the-type S′.the-laws (stepped p r) (st, (is, tt));
 }

@@ -1,9 +1,10 @@
 -- Each public function's promise leaves one answer. Of a call it is what the call shows: what is said, how many bytes were taken, which are held;
--- where the held bytes stand, and the bytes beside, is the exception that document 01 knows. Assumes nothing.
+-- where the held bytes stand, and the bytes beside, is the exception of RULES 15. Assumes nothing.
 use mathlib.Core.Path.{_≡_}
 use mathlib.Core.List.{List}
 use Prim.Native.Nat.{ℕ}
 use lib.ListN.{length}
+use Rattle.reading.specs.Reading.{limit}
 use denote.Ref.{now}
 use Rattle.base.proofs.Unique.{OneAnswer, same}
 use Rattle.stream.proofs.Unique.{one-seen}
@@ -25,9 +26,9 @@ pub held-len-one : OneAnswer {Seen = ℕ} held-len.Post (λ κs r s. r)
 held-len-one κs a r r′ s s′ = same
 
 -- of a call: what is said, a frame's bytes, how many bytes were taken, how many and which are held, and of a refused state all
-pub seen-once : (p : CrsfParser) (input : List ℕ) {r r′ : Stepped} → length (p .buffer) ≡ 64 → Nexts p input r → Nexts p input r′ → seenOf r ≡ seenOf r′
-seen-once p input = one-seen 64 (p .buffer) (p .start) (p .end) input
+pub seen-once : (p : CrsfParser) (input : List ℕ) {r r′ : Stepped} → length (p .buffer) ≡ limit → Nexts p input r → Nexts p input r′ → seenOf r ≡ seenOf r′
+seen-once p input = one-seen limit (p .buffer) (p .start) (p .end) input
 
 pub next-raw-packet-one : (κs : _) (a : _) (r r′ : _) (s s′ : _) → next-raw-packet.Post κs a r s → next-raw-packet.Post κs a r′ s′
-    → length (a .0 .buffer) ≡ 64 → seenOf r ≡ seenOf r′
+    → length (a .0 .buffer) ≡ limit → seenOf r ≡ seenOf r′
 next-raw-packet-one κs a r r′ s s′ p q full = seen-once (a .0) (now (a .1 .0)) full p q

@@ -1,12 +1,13 @@
 // GPS (0x02), 15 bytes.
 use altitude::Metres;
-use layout::Written;
+use refusals::Refusal;
+use writing::Written;
 ghost use mathlib.Core.Path.{_≡_};
 ghost use mathlib.Core.List.{[], _∷_};
 ghost use lib.IntN.{pos};
 ghost use Rattle.altitude.specs.Altitude.{metresOf};
-ghost use Rattle.layout.specs.Writing.{writeOf};
-ghost use Rattle.positions.specs.Gps.{gpsValues, gpsAnswer, gpsRead, gpsImage};
+ghost use Rattle.writing.specs.Writing.{writtenRow, writeOf};
+ghost use Rattle.positions.specs.Gps.{gpsValues, gpsDecoded, gpsRead, gpsImage};
 
 pub struct Gps {
     // Degrees times 10^7.
@@ -23,8 +24,7 @@ pub struct Gps {
 
 pub enum GpsRead {
     Record(Gps),
-    // 4
-    InvalidPayloadLength,
+    Refused(Refusal),
 }
 
 impl Gps {
@@ -60,10 +60,10 @@ impl Gps {
 
     // Bytes past the layout are ignored.
     pub fn from_bytes(payload: &[u8]) -> GpsRead
-        ensures { λ r. ⌜ gpsAnswer r ≡ gpsRead (now (payload .entry)) ⌝ }
+        ensures { λ r. ⌜ gpsDecoded r ≡ gpsRead (now (payload .entry)) ⌝ }
     {
         if payload.len() < Self::MIN_PAYLOAD_SIZE {
-            return GpsRead::InvalidPayloadLength;
+            return GpsRead::Refused(Refusal::InvalidPayloadLength);
         }
         let latitude = numbers::get_i32(payload, 0);
         let longitude = numbers::get_i32(payload, 4);
@@ -82,10 +82,10 @@ impl Gps {
     }
 
     pub fn to_bytes(self, buffer: &mut [u8]) -> Written
-        ensures { λ r. ⌜ (r, now (buffer .exit)) ≡ writeOf (gpsImage self) (now (buffer .entry)) ⌝ }
+        ensures { λ r. ⌜ (writtenRow r, now (buffer .exit)) ≡ writeOf (gpsImage self) (now (buffer .entry)) ⌝ }
     {
         if buffer.len() < Self::MIN_PAYLOAD_SIZE {
-            return Written::BufferOverflow;
+            return Written::Refused(Refusal::BufferOverflow);
         }
         numbers::put_i32(buffer, 0, self.latitude);
         numbers::put_i32(buffer, 4, self.longitude);

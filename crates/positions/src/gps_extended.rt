@@ -1,14 +1,15 @@
 // GPS extended (0x06), 20 bytes.
-use layout::Written;
+use refusals::Refusal;
+use writing::Written;
 ghost use mathlib.Core.Path.{_≡_};
 ghost use mathlib.Core.List.{[], _∷_};
 ghost use Prim.Native.Nat.{_≤_};
 ghost use lib.IntN.{pos};
 ghost use lib.ListN.{length, take, drop};
 ghost use Rattle.base.specs.Parts.{pasted};
-ghost use Rattle.layout.specs.Layout.{recordBytes};
-ghost use Rattle.layout.specs.Writing.{writeOf};
-ghost use Rattle.positions.specs.GpsExtended.{gpsExtendedLayout, gpsExtendedValues, gpsExtendedAnswer, gpsExtendedRead, gpsExtendedImage};
+ghost use Rattle.layout.specs.Layout.{sizeOf, recordBytes};
+ghost use Rattle.writing.specs.Writing.{writtenRow, writeOf};
+ghost use Rattle.positions.specs.GpsExtended.{gpsExtendedLayout, gpsExtendedValues, gpsExtendedDecoded, gpsExtendedRead, gpsExtendedImage};
 
 pub struct GpsExtended {
     // Quality of the fix.
@@ -34,8 +35,7 @@ pub struct GpsExtended {
 
 pub enum GpsExtendedRead {
     Record(GpsExtended),
-    // 4
-    InvalidPayloadLength,
+    Refused(Refusal),
 }
 
 impl GpsExtended {
@@ -57,7 +57,11 @@ impl GpsExtended {
         h_dop: u8,
         v_dop: u8,
     ) -> Self
-        ensures { λ r. ⌜ gpsExtendedValues r ≡ pos «fix_type» ∷ «n_speed» ∷ «e_speed» ∷ «v_speed» ∷ «h_speed_acc» ∷ «track_acc» ∷ «alt_ellipsoid» ∷ «h_acc» ∷ «v_acc» ∷ pos reserved ∷ pos «h_dop» ∷ pos «v_dop» ∷ [] ⌝ }
+        ensures { λ r. ⌜
+            gpsExtendedValues r
+            ≡ pos «fix_type» ∷ «n_speed» ∷ «e_speed» ∷ «v_speed» ∷ «h_speed_acc» ∷ «track_acc»
+            ∷ «alt_ellipsoid» ∷ «h_acc» ∷ «v_acc» ∷ pos reserved ∷ pos «h_dop» ∷ pos «v_dop» ∷ []
+            ⌝ }
     {
         Self {
             fix_type,
@@ -76,10 +80,10 @@ impl GpsExtended {
     }
 
     pub fn from_bytes(payload: &[u8]) -> GpsExtendedRead
-        ensures { λ r. ⌜ gpsExtendedAnswer r ≡ gpsExtendedRead (now (payload .entry)) ⌝ }
+        ensures { λ r. ⌜ gpsExtendedDecoded r ≡ gpsExtendedRead (now (payload .entry)) ⌝ }
     {
         if payload.len() < Self::MIN_PAYLOAD_SIZE {
-            return GpsExtendedRead::InvalidPayloadLength;
+            return GpsExtendedRead::Refused(Refusal::InvalidPayloadLength);
         }
         let fix_type = numbers::get_u8(payload, 0);
         let n_speed = numbers::get_i16(payload, 1);
@@ -111,8 +115,10 @@ impl GpsExtended {
 
     // The first six fields, bytes 0 to 10.
     fn put_speeds(self, buffer: &mut [u8])
-        requires { ⌜ 20 ≤ length (now buffer) ⌝ }
-        ensures { λ _. ⌜ now (buffer .exit) ≡ pasted (now (buffer .entry)) 0 (recordBytes (take 6 gpsExtendedLayout) (take 6 (gpsExtendedValues self))) ⌝ }
+        requires { ⌜ sizeOf gpsExtendedLayout ≤ length (now buffer) ⌝ }
+        ensures { λ _. ⌜
+            now (buffer .exit)
+            ≡ pasted (now (buffer .entry)) 0 (recordBytes (take 6 gpsExtendedLayout) (take 6 (gpsExtendedValues self))) ⌝ }
     {
         numbers::put_u8(buffer, 0, self.fix_type);
         numbers::put_i16(buffer, 1, self.n_speed);
@@ -124,8 +130,10 @@ impl GpsExtended {
 
     // The other six, bytes 11 to 19.
     fn put_places(self, buffer: &mut [u8])
-        requires { ⌜ 20 ≤ length (now buffer) ⌝ }
-        ensures { λ _. ⌜ now (buffer .exit) ≡ pasted (now (buffer .entry)) 11 (recordBytes (drop 6 gpsExtendedLayout) (drop 6 (gpsExtendedValues self))) ⌝ }
+        requires { ⌜ sizeOf gpsExtendedLayout ≤ length (now buffer) ⌝ }
+        ensures { λ _. ⌜
+            now (buffer .exit)
+            ≡ pasted (now (buffer .entry)) 11 (recordBytes (drop 6 gpsExtendedLayout) (drop 6 (gpsExtendedValues self))) ⌝ }
     {
         numbers::put_i16(buffer, 11, self.alt_ellipsoid);
         numbers::put_i16(buffer, 13, self.h_acc);
@@ -136,10 +144,10 @@ impl GpsExtended {
     }
 
     pub fn to_bytes(self, buffer: &mut [u8]) -> Written
-        ensures { λ r. ⌜ (r, now (buffer .exit)) ≡ writeOf (gpsExtendedImage self) (now (buffer .entry)) ⌝ }
+        ensures { λ r. ⌜ (writtenRow r, now (buffer .exit)) ≡ writeOf (gpsExtendedImage self) (now (buffer .entry)) ⌝ }
     {
         if buffer.len() < Self::MIN_PAYLOAD_SIZE {
-            return Written::BufferOverflow;
+            return Written::Refused(Refusal::BufferOverflow);
         }
         self.put_speeds(buffer);
         self.put_places(buffer);

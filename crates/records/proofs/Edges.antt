@@ -1,12 +1,12 @@
--- Every battery of the table is written as document 01 says, and reads back.
+-- Every battery of the table is written as it says, and reads back.
 -- Assumes nothing.
 use Prim.Native.Nat.{ℕ}
 use mathlib.Core.Path.{_≡_, refl}
 use mathlib.Core.List.{List, map}
 use Rattle.numbers.specs.BigEndian.{beOf, bytesOf}
 use Rattle.numbers.specs.TwosComplement.{signedOf, twosOf}
-use Rattle.layout.specs.Writing.{bytes}
-use Rattle.fields.specs.Answer.{read}
+use Rattle.writing.specs.Writing.{bytes}
+use Rattle.layout.specs.Decoded.{decoded}
 use Rattle.records.specs.Battery.{batteryValues, batteryImage, batteryRead}
 use Rattle.records.specs.Edges.{batteryEdges}
 use Rattle.records.specs.declared.battery.Battery.{Battery}
@@ -15,6 +15,6 @@ pub batteries-written : map (λ (e : Battery × List ℕ). batteryImage (e .0)) 
 unfolding batteryValues bytesOf twosOf
 batteries-written = refl
 
-pub batteries-read : map (λ (e : Battery × List ℕ). batteryRead (e .1)) batteryEdges ≡ map (λ (e : Battery × List ℕ). read (batteryValues (e .0))) batteryEdges
+pub batteries-read : map (λ (e : Battery × List ℕ). batteryRead (e .1)) batteryEdges ≡ map (λ (e : Battery × List ℕ). decoded (batteryValues (e .0))) batteryEdges
 unfolding batteryValues batteryRead beOf signedOf
 batteries-read = refl

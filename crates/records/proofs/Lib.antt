@@ -1,5 +1,5 @@
 pub mod Edges
-pub mod Told
+pub mod Known
 pub mod Laws
 pub mod BatteryLaws
 pub mod Unique

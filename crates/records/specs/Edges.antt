@@ -1,4 +1,4 @@
--- The battery records of document 01, "Both sides of each edge".
+-- Worked cases of batteries (RULES 10): without an id, and with one.
 -- Assumes nothing.
 use Prim.Native.Nat.{ℕ}
 use mathlib.Core.List.{List, [], _∷_}

@@ -1,12 +1,13 @@
 // Barometric altitude and vertical speed (0x09), 3 bytes.
 use altitude::Decimetres;
-use layout::Written;
+use refusals::Refusal;
+use writing::Written;
 ghost use mathlib.Core.Path.{_≡_};
 ghost use mathlib.Core.List.{[], _∷_};
 ghost use lib.IntN.{pos};
 ghost use Rattle.altitude.specs.Altitude.{decimetresOf, packOf};
-ghost use Rattle.layout.specs.Writing.{writeOf};
-ghost use Rattle.records.specs.BaroAltitude.{baroAltitudeValues, baroAltitudeAnswer, baroAltitudeRead, baroAltitudeImage};
+ghost use Rattle.writing.specs.Writing.{writtenRow, writeOf};
+ghost use Rattle.records.specs.BaroAltitude.{baroAltitudeValues, baroAltitudeDecoded, baroAltitudeRead, baroAltitudeImage};
 
 pub struct BaroAltitude {
     // Above the starting point, packed: see `get_altitude_dm`.
@@ -17,8 +18,7 @@ pub struct BaroAltitude {
 
 pub enum BaroAltitudeRead {
     Record(BaroAltitude),
-    // 4
-    InvalidPayloadLength,
+    Refused(Refusal),
 }
 
 impl BaroAltitude {
@@ -48,10 +48,10 @@ impl BaroAltitude {
     }
 
     pub fn from_bytes(payload: &[u8]) -> BaroAltitudeRead
-        ensures { λ r. ⌜ baroAltitudeAnswer r ≡ baroAltitudeRead (now (payload .entry)) ⌝ }
+        ensures { λ r. ⌜ baroAltitudeDecoded r ≡ baroAltitudeRead (now (payload .entry)) ⌝ }
     {
         if payload.len() < Self::MIN_PAYLOAD_SIZE {
-            return BaroAltitudeRead::InvalidPayloadLength;
+            return BaroAltitudeRead::Refused(Refusal::InvalidPayloadLength);
         }
         let altitude_packed = numbers::get_u16(payload, 0);
         let vertical_speed_packed = numbers::get_i8(payload, 2);
@@ -62,10 +62,10 @@ impl BaroAltitude {
     }
 
     pub fn to_bytes(self, buffer: &mut [u8]) -> Written
-        ensures { λ r. ⌜ (r, now (buffer .exit)) ≡ writeOf (baroAltitudeImage self) (now (buffer .entry)) ⌝ }
+        ensures { λ r. ⌜ (writtenRow r, now (buffer .exit)) ≡ writeOf (baroAltitudeImage self) (now (buffer .entry)) ⌝ }
     {
         if buffer.len() < Self::MIN_PAYLOAD_SIZE {
-            return Written::BufferOverflow;
+            return Written::Refused(Refusal::BufferOverflow);
         }
         numbers::put_u16(buffer, 0, self.altitude_packed);
         numbers::put_i8(buffer, 2, self.vertical_speed_packed);

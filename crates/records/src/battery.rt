@@ -1,14 +1,15 @@
 // Battery (0x08), 8 bytes, or 9 with an id.
-use layout::Written;
+use refusals::Refusal;
+use writing::Written;
 ghost use mathlib.Core.Path.{_≡_};
 ghost use mathlib.Core.List.{[], _∷_};
 ghost use Prim.Native.Nat.{_≤_};
 ghost use lib.IntN.{pos};
 ghost use lib.ListN.{length, take};
 ghost use Rattle.base.specs.Parts.{pasted};
-ghost use Rattle.layout.specs.Layout.{recordBytes};
-ghost use Rattle.layout.specs.Writing.{writeOf};
-ghost use Rattle.records.specs.Battery.{batteryLayout, batteryValues, batteryAnswer, batteryRead, batteryImage};
+ghost use Rattle.layout.specs.Layout.{sizeOf, recordBytes};
+ghost use Rattle.writing.specs.Writing.{writtenRow, writeOf};
+ghost use Rattle.records.specs.Battery.{shortLayout, batteryValues, batteryDecoded, batteryRead, batteryImage};
 
 pub struct Battery {
     // 0.1 V and 0.1 A.
@@ -24,14 +25,15 @@ pub struct Battery {
 
 pub enum BatteryRead {
     Record(Battery),
-    // 4
-    InvalidPayloadLength,
+    Refused(Refusal),
 }
 
 impl Battery {
     pub const PACKET_TYPE: u8 = 0x08;
 
     pub const MIN_PAYLOAD_SIZE: usize = 8;
+
+    pub const SIZE_WITH_ID: usize = 9;
 
     // A record with no id.
     pub fn new(voltage: i16, current: i16, capacity_used: u32, remaining: u8) -> Self
@@ -47,16 +49,16 @@ impl Battery {
     }
 
     pub fn from_bytes(payload: &[u8]) -> BatteryRead
-        ensures { λ r. ⌜ batteryAnswer r ≡ batteryRead (now (payload .entry)) ⌝ }
+        ensures { λ r. ⌜ batteryDecoded r ≡ batteryRead (now (payload .entry)) ⌝ }
     {
         if payload.len() < Self::MIN_PAYLOAD_SIZE {
-            return BatteryRead::InvalidPayloadLength;
+            return BatteryRead::Refused(Refusal::InvalidPayloadLength);
         }
         let voltage = numbers::get_i16(payload, 0);
         let current = numbers::get_i16(payload, 2);
         let capacity_used = numbers::get_u24(payload, 4);
         let remaining = numbers::get_u8(payload, 7);
-        if payload.len() < 9 {
+        if payload.len() < Self::SIZE_WITH_ID {
             return BatteryRead::Record(Battery {
                 voltage,
                 current,
@@ -77,8 +79,8 @@ impl Battery {
 
     // The fields that every battery record has, bytes 0 to 7.
     fn put_short(self, buffer: &mut [u8])
-        requires { ⌜ 8 ≤ length (now buffer) ⌝ }
-        ensures { λ _. ⌜ now (buffer .exit) ≡ pasted (now (buffer .entry)) 0 (recordBytes (take 4 batteryLayout) (take 4 (batteryValues self))) ⌝ }
+        requires { ⌜ sizeOf shortLayout ≤ length (now buffer) ⌝ }
+        ensures { λ _. ⌜ now (buffer .exit) ≡ pasted (now (buffer .entry)) 0 (recordBytes shortLayout (take 4 (batteryValues self))) ⌝ }
     {
         numbers::put_i16(buffer, 0, self.voltage);
         numbers::put_i16(buffer, 2, self.current);
@@ -87,22 +89,22 @@ impl Battery {
     }
 
     pub fn to_bytes(self, buffer: &mut [u8]) -> Written
-        ensures { λ r. ⌜ (r, now (buffer .exit)) ≡ writeOf (batteryImage self) (now (buffer .entry)) ⌝ }
+        ensures { λ r. ⌜ (writtenRow r, now (buffer .exit)) ≡ writeOf (batteryImage self) (now (buffer .entry)) ⌝ }
     {
         let id = self.id;
         if id == 0 {
-            if buffer.len() < 8 {
-                return Written::BufferOverflow;
+            if buffer.len() < Self::MIN_PAYLOAD_SIZE {
+                return Written::Refused(Refusal::BufferOverflow);
             }
             self.put_short(buffer);
-            Written::Wrote(8)
+            Written::Wrote(Self::MIN_PAYLOAD_SIZE)
         } else {
-            if buffer.len() < 9 {
-                return Written::BufferOverflow;
+            if buffer.len() < Self::SIZE_WITH_ID {
+                return Written::Refused(Refusal::BufferOverflow);
             }
             self.put_short(buffer);
             numbers::put_u8(buffer, 8, id);
-            Written::Wrote(9)
+            Written::Wrote(Self::SIZE_WITH_ID)
         }
     }
 }

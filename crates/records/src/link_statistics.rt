@@ -1,14 +1,15 @@
 // Link statistics (0x14), 10 bytes. Uplink is from the ground to the aircraft.
-use layout::Written;
+use refusals::Refusal;
+use writing::Written;
 ghost use mathlib.Core.Path.{_≡_};
 ghost use mathlib.Core.List.{[], _∷_};
 ghost use Prim.Native.Nat.{_≤_};
 ghost use lib.IntN.{pos};
 ghost use lib.ListN.{length, take, drop};
 ghost use Rattle.base.specs.Parts.{pasted};
-ghost use Rattle.layout.specs.Layout.{recordBytes};
-ghost use Rattle.layout.specs.Writing.{writeOf};
-ghost use Rattle.records.specs.LinkStatistics.{linkStatisticsLayout, linkStatisticsValues, linkStatisticsAnswer, linkStatisticsRead, linkStatisticsImage};
+ghost use Rattle.layout.specs.Layout.{sizeOf, recordBytes};
+ghost use Rattle.writing.specs.Writing.{writtenRow, writeOf};
+ghost use Rattle.records.specs.LinkStatistics.{linkStatisticsLayout, linkStatisticsValues, linkStatisticsDecoded, linkStatisticsRead, linkStatisticsImage};
 
 pub struct LinkStatistics {
     // dBm times -1.
@@ -30,8 +31,7 @@ pub struct LinkStatistics {
 
 pub enum LinkStatisticsRead {
     Record(LinkStatistics),
-    // 4
-    InvalidPayloadLength,
+    Refused(Refusal),
 }
 
 impl LinkStatistics {
@@ -51,7 +51,11 @@ impl LinkStatistics {
         downlink_link_quality: u8,
         downlink_snr: i8,
     ) -> Self
-        ensures { λ r. ⌜ linkStatisticsValues r ≡ pos «uplink_rssi_1» ∷ pos «uplink_rssi_2» ∷ pos «uplink_link_quality» ∷ «uplink_snr» ∷ pos «active_antenna» ∷ pos «rf_mode» ∷ pos «uplink_tx_power» ∷ pos «downlink_rssi» ∷ pos «downlink_link_quality» ∷ «downlink_snr» ∷ [] ⌝ }
+        ensures { λ r. ⌜
+            linkStatisticsValues r
+            ≡ pos «uplink_rssi_1» ∷ pos «uplink_rssi_2» ∷ pos «uplink_link_quality» ∷ «uplink_snr» ∷ pos «active_antenna»
+            ∷ pos «rf_mode» ∷ pos «uplink_tx_power» ∷ pos «downlink_rssi» ∷ pos «downlink_link_quality» ∷ «downlink_snr» ∷ []
+            ⌝ }
     {
         Self {
             uplink_rssi_1,
@@ -68,10 +72,10 @@ impl LinkStatistics {
     }
 
     pub fn from_bytes(payload: &[u8]) -> LinkStatisticsRead
-        ensures { λ r. ⌜ linkStatisticsAnswer r ≡ linkStatisticsRead (now (payload .entry)) ⌝ }
+        ensures { λ r. ⌜ linkStatisticsDecoded r ≡ linkStatisticsRead (now (payload .entry)) ⌝ }
     {
         if payload.len() < Self::MIN_PAYLOAD_SIZE {
-            return LinkStatisticsRead::InvalidPayloadLength;
+            return LinkStatisticsRead::Refused(Refusal::InvalidPayloadLength);
         }
         let uplink_rssi_1 = numbers::get_u8(payload, 0);
         let uplink_rssi_2 = numbers::get_u8(payload, 1);
@@ -99,8 +103,10 @@ impl LinkStatistics {
 
     // The first five fields, bytes 0 to 4.
     fn put_first_five(self, buffer: &mut [u8])
-        requires { ⌜ 10 ≤ length (now buffer) ⌝ }
-        ensures { λ _. ⌜ now (buffer .exit) ≡ pasted (now (buffer .entry)) 0 (recordBytes (take 5 linkStatisticsLayout) (take 5 (linkStatisticsValues self))) ⌝ }
+        requires { ⌜ sizeOf linkStatisticsLayout ≤ length (now buffer) ⌝ }
+        ensures { λ _. ⌜
+            now (buffer .exit)
+            ≡ pasted (now (buffer .entry)) 0 (recordBytes (take 5 linkStatisticsLayout) (take 5 (linkStatisticsValues self))) ⌝ }
     {
         numbers::put_u8(buffer, 0, self.uplink_rssi_1);
         numbers::put_u8(buffer, 1, self.uplink_rssi_2);
@@ -111,8 +117,10 @@ impl LinkStatistics {
 
     // The other five, bytes 5 to 9.
     fn put_other_five(self, buffer: &mut [u8])
-        requires { ⌜ 10 ≤ length (now buffer) ⌝ }
-        ensures { λ _. ⌜ now (buffer .exit) ≡ pasted (now (buffer .entry)) 5 (recordBytes (drop 5 linkStatisticsLayout) (drop 5 (linkStatisticsValues self))) ⌝ }
+        requires { ⌜ sizeOf linkStatisticsLayout ≤ length (now buffer) ⌝ }
+        ensures { λ _. ⌜
+            now (buffer .exit)
+            ≡ pasted (now (buffer .entry)) 5 (recordBytes (drop 5 linkStatisticsLayout) (drop 5 (linkStatisticsValues self))) ⌝ }
     {
         numbers::put_u8(buffer, 5, self.rf_mode);
         numbers::put_u8(buffer, 6, self.uplink_tx_power);
@@ -122,10 +130,10 @@ impl LinkStatistics {
     }
 
     pub fn to_bytes(self, buffer: &mut [u8]) -> Written
-        ensures { λ r. ⌜ (r, now (buffer .exit)) ≡ writeOf (linkStatisticsImage self) (now (buffer .entry)) ⌝ }
+        ensures { λ r. ⌜ (writtenRow r, now (buffer .exit)) ≡ writeOf (linkStatisticsImage self) (now (buffer .entry)) ⌝ }
     {
         if buffer.len() < Self::MIN_PAYLOAD_SIZE {
-            return Written::BufferOverflow;
+            return Written::Refused(Refusal::BufferOverflow);
         }
         self.put_first_five(buffer);
         self.put_other_five(buffer);

@@ -1,7 +1,7 @@
 -- A row is of one refusal, so a promise of the row leaves one refusal. The numbers are spelled here a second time: two of them swapped in the
 -- definition and in the code together are refused here.
 -- Assumes nothing.
-use Prim.Native.Nat.{ℕ}
+use Prim.Native.Nat.{ℕ, _<_}
 use mathlib.Core.Path.{_≡_, refl, sym, ap, _∙_}
 use mathlib.Core.List.{List, _∷_}
 use native.Mathlib.Omega.{arith}
@@ -37,16 +37,18 @@ back BadState = refl
 pub one-refusal : {r s : Refusal} → rowOf r ≡ rowOf s → r ≡ s
 one-refusal {r} {s} same = sym (back r) ∙ ap refusalOf same ∙ back s
 
--- no refusal has the number 0, which a success has
-by-number : (r : Refusal) → numberOf r ≡ 0 → ⊥
-by-number (InvalidSync byte) e = omega arith
-by-number (InvalidPacketLength length) e = omega arith
-by-number (InvalidCrc calculated carried) e = omega arith
-by-number InvalidPayloadLength e = omega arith
-by-number BufferOverflow e = omega arith
-by-number (ChannelRange index) e = omega arith
-by-number BadAddress e = omega arith
-by-number BadState e = omega arith
+-- every number is from 1 to 254: a success has 0, and a host is asked for more by 255
+pub number-bounds : (r : Refusal) → (0 < numberOf r) × (numberOf r < 255)
+number-bounds (InvalidSync byte) = omega arith
+number-bounds (InvalidPacketLength length) = omega arith
+number-bounds (InvalidCrc calculated carried) = omega arith
+number-bounds InvalidPayloadLength = omega arith
+number-bounds BufferOverflow = omega arith
+number-bounds (ChannelRange index) = omega arith
+number-bounds BadAddress = omega arith
+number-bounds BadState = omega arith
 
 pub not-zero : (r : Refusal) {values : List ℕ} → rowOf r ≡ 0 ∷ values → ⊥
-not-zero r {values} e = by-number r (ap (λ (row : List ℕ). getD row 0 0) e)
+not-zero r {values} e =
+    let number : numberOf r ≡ 0 = ap (λ (row : List ℕ). getD row 0 0) e in
+    omega (arith, number-bounds r)

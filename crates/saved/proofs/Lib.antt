@@ -1,8 +1,12 @@
--- `Writes`: the code's stores, as one run of bytes. `Forms`: what the tests of a count, a span and a form say, and the form in one group.
--- `Laws`: document 01's laws of the saved form, and demand 3 across a save and a restore. `Resumes`: a restore by value.
--- `Unique`: one answer.
+-- `Writes`: the code's two writes as one. `Forms`: what the tests of a span and of a form say. `Laws`: what the saved form is for.
+-- `Resumes`: a restore by value. `Rows`: what a restore says is known by its row. `Unique`: one answer.
+-- `Structs`, `LentLaws`, `LentUnique`: of a parser that is lent: its types as crate `by_hand` takes them, what the form is for, one answer.
 pub mod Writes
 pub mod Forms
-pub mod Resumes
 pub mod Laws
+pub mod Resumes
+pub mod Rows
 pub mod Unique
+pub mod Structs
+pub mod LentLaws
+pub mod LentUnique

@@ -1,42 +1,50 @@
--- What a restore by value tells, from what the restore over its places told.
+-- What a restore by value answers, from what the restore over its places answered.
 -- Assumes nothing.
-use mathlib.Core.Path.{_≡_, ap, _∙_}
+use mathlib.Core.Path.{_≡_, sym, ap, _∙_}
 use mathlib.Core.Bool.{true, false}
 use mathlib.Core.List.{List}
 use Prim.Native.Nat.{ℕ}
-use native.Mathlib.Omega.{arith}
-use lib.ListN.{length}
+use lib.ListN.{length, getD}
 use Rattle.base.specs.Parts.{pasted}
 use Rattle.base.proofs.Tests.{by-test}
+use Rattle.refusals.specs.Row.{rowOf}
+use Rattle.refusals.specs.declared.Refusal.{Refusal}
+use Rattle.refusals.specs.declared.Refusal.the-variants.{BadState}
+use Rattle.refusals.proofs.Rows.{not-zero}
+use Rattle.reading.specs.Reading.{limit}
 use Rattle.parser.specs.declared.CrsfParser.{CrsfParser}
 use Rattle.saved.specs.Form.{isForm, heldOf}
-use Rattle.saved.specs.Save.{Told, done, refused, restoreOf}
+use Rattle.saved.specs.declared.form.Restored.{Restored}
+use Rattle.saved.specs.declared.form.Restored.the-variants.{Held, Refused}
+use Rattle.saved.specs.Save.{heldRow, restoredRow, restoreOf}
 use Rattle.saved.specs.Parser.{resumeOf}
 
-module _ (p : CrsfParser) (form : List ℕ) (full : length (p .buffer) ≡ 64) where
+module _ (p : CrsfParser) (form : List ℕ) (full : length (p .buffer) ≡ limit) where
   abbrev Left : Type 0
-  Left = Told × List ℕ
+  Left = List ℕ × List ℕ
 
-  at-good : isForm 64 form ≡ true → restoreOf form (p .buffer) ≡ (done (length (heldOf form)), pasted (p .buffer) 0 (heldOf form))
+  at-good : isForm limit form ≡ true → restoreOf form (p .buffer) ≡ (heldRow (length (heldOf limit form)), pasted (p .buffer) 0 (heldOf limit form))
   unfolding restoreOf
   at-good good = simp (full, good)
 
-  at-bad : isForm 64 form ≡ false → restoreOf form (p .buffer) ≡ (refused 8, p .buffer)
+  at-bad : isForm limit form ≡ false → restoreOf form (p .buffer) ≡ (rowOf BadState, p .buffer)
   unfolding restoreOf
   at-bad bad = simp (full, bad)
 
-  resumed : {t : Told} {after : List ℕ} → isForm 64 form ≡ true → (t, after) ≡ restoreOf form (p .buffer)
-      → (t, record { buffer = after; start = 0; end = t .count }) ≡ resumeOf p form
+  resumed : {row after : List ℕ} → isForm limit form ≡ true → (row, after) ≡ restoreOf form (p .buffer)
+      → (row, record { buffer = after; start = 0; end = getD row 1 0 }) ≡ resumeOf p form
   unfolding resumeOf
-  resumed good e = ap (λ (x : Left). (x .0, record { buffer = x .1; start = 0; end = x .0 .count })) (e ∙ at-good good) ∙ simp good
+  resumed good e = ap (λ (x : Left). (x .0, record { buffer = x .1; start = 0; end = getD (x .0) 1 0 })) (e ∙ at-good good) ∙ simp good
 
-  pub resume-held : {n : ℕ} {after : List ℕ} → (done n, after) ≡ restoreOf form (p .buffer)
-      → (done n, record { buffer = after; start = 0; end = n }) ≡ resumeOf p form
+  pub resume-held : {n : ℕ} {after : List ℕ} → (restoredRow (Held n), after) ≡ restoreOf form (p .buffer)
+      → (restoredRow (Held n), record { buffer = after; start = 0; end = n }) ≡ resumeOf p form
+  unfolding restoredRow
   resume-held e =
-      by-test (isForm 64 form) (λ good. resumed good e)
-      (λ bad. let z : _≡_ {A = ℕ} 0 8 = ap (λ (x : Left). x .0 .number) (e ∙ at-bad bad) in absurd (omega arith))
+      by-test (isForm limit form) (λ good. resumed good e) (λ bad. absurd (not-zero BadState (sym (ap (λ (x : Left). x .0) (e ∙ at-bad bad)))))
 
-  pub resume-refused : {after : List ℕ} → (refused 8, after) ≡ restoreOf form (p .buffer) → (refused 8, p) ≡ resumeOf p form
-  unfolding resumeOf
-  resume-refused e =
-      by-test (isForm 64 form) (λ good. let z : _≡_ {A = ℕ} 8 0 = ap (λ (x : Left). x .0 .number) (e ∙ at-good good) in absurd (omega arith)) (λ bad. simp bad)
+  pub resume-refused : (r : Refusal) {after : List ℕ} → (restoredRow (Refused r), after) ≡ restoreOf form (p .buffer)
+      → (restoredRow (Refused r), p) ≡ resumeOf p form
+  unfolding restoredRow resumeOf
+  resume-refused r e =
+      by-test (isForm limit form) (λ good. absurd (not-zero r (ap (λ (x : Left). x .0) (e ∙ at-good good))))
+      (λ bad. simp bad (ap (λ (x : Left). (x .0, p)) (e ∙ at-bad bad)))

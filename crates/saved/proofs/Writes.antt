@@ -1,24 +1,21 @@
--- The code's stores and copies, as one run of bytes that is pasted.
+-- A run of bytes pasted at the front and a copy right behind it are one run.
 -- Assumes nothing.
-use mathlib.Core.Path.{_≡_, ap, _∙_}
-use mathlib.Core.List.{List, [], _∷_}
+use mathlib.Core.Path.{_≡_, sym, ap, _∙_}
+use mathlib.Core.List.{List, _++_}
 use Prim.Native.Nat.{ℕ, _+_, _≤_}
+use native.Mathlib.Nat.{zero-add}
 use native.Mathlib.Omega.{arith}
-use lib.ListN.{length, set, length-set}
+use lib.ListN.{length}
 use Rattle.base.specs.Parts.{pasted, copied}
-use Rattle.base.proofs.Parts.{pasted-append, paste-all, set-pasted, copied-fits}
+use Rattle.base.proofs.Parts.{length-pasted, pasted-append, paste-all, copied-fits}
 
--- a byte, and then a copy behind it
-pub byte-and-copy : (d : List ℕ) (b : ℕ) (s : List ℕ) (n : ℕ) → n ≡ length s → 1 + n ≤ length d → copied (set d 0 b) 1 s n ≡ pasted d 0 (b ∷ s)
-byte-and-copy d b s n e room =
-    copied-fits (set d 0 b) 1 s n (simp length-set (omega arith)) (omega arith)
-    ∙ paste-all (set d 0 b) 1 s n e
-    ∙ ap (λ (l : List ℕ). pasted l 1 s) (set-pasted d 0 b (omega arith))
-    ∙ pasted-append d 0 1 (b ∷ []) s (omega arith) (omega arith)
-
--- two bytes
-pub two-bytes : (d : List ℕ) (a b : ℕ) → 2 ≤ length d → set (set d 0 a) 1 b ≡ pasted d 0 (a ∷ b ∷ [])
-two-bytes d a b room =
-    set-pasted (set d 0 a) 1 b (simp length-set (omega arith))
-    ∙ ap (λ (l : List ℕ). pasted l 1 (b ∷ [])) (set-pasted d 0 a (omega arith))
-    ∙ pasted-append d 0 1 (a ∷ []) (b ∷ []) (omega arith) (omega arith)
+module _ (d xs ys : List ℕ) (k n : ℕ) (first : k ≡ length xs) (second : n ≡ length ys) (room : k + n ≤ length d) where
+  pub run-and-copy : {mid after : List ℕ} → mid ≡ pasted d 0 xs → after ≡ copied mid k ys n → after ≡ pasted d 0 (xs ++ ys)
+  run-and-copy {mid} {after} e copies =
+      let long : length mid ≡ length d = ap length e ∙ length-pasted d 0 xs (omega arith) in
+      copies
+      ∙ copied-fits mid k ys n (omega arith) (omega arith)
+      ∙ paste-all mid k ys n second
+      ∙ ap (λ (l : List ℕ). pasted l k ys) e
+      ∙ ap (λ (j : ℕ). pasted (pasted d 0 xs) j ys) (sym (zero-add k))
+      ∙ pasted-append d 0 k xs ys (sym first) (omega arith)

@@ -1,27 +1,34 @@
--- Document 01, "Saved form": "the count of held bytes, 0 to 63, .. then exactly those bytes", over the frame limit m: 64 in document 01.
+-- The saved form of the held bytes (RULES 9): their count in groups of seven bits, then those bytes, over the limit m of a frame.
 -- Assumes nothing.
-use Prim.Native.Nat.{ℕ, _+_, _-_}
-use mathlib.Core.Bool.{Bool, _&&_}
-use mathlib.Core.List.{List, _++_}
+use Prim.Native.Nat.{ℕ, _-_}
+use mathlib.Core.Bool.{Bool, false, _&&_}
+use mathlib.Core.List.{List, [], _++_}
 use lib.Dec.{leb, ltb, eqb}
-use lib.ListN.{length, getD, drop}
-use Rattle.saved.specs.Groups.{groups}
+use lib.ListN.{length}
+use Rattle.groups.specs.Groups.{groups}
+use Rattle.groups.specs.Reading.{Reading, unfinished, ends, malformed, read}
 
 unfoldable pub savedForm : List ℕ → List ℕ
 savedForm held = groups (length held) ++ held
 
--- a count that can be saved: below the limit, and one group
-unfoldable pub isCount : ℕ → ℕ → Bool
-isCount m count = ltb count m && ltb count 128
-
--- a start and an end that mark a part of m places, and no more bytes than can be saved
+-- a start and an end that mark a part of m places, and fewer bytes than the limit
 unfoldable pub isSavable : ℕ → ℕ → ℕ → Bool
-isSavable m start end = leb start end && (leb end m && isCount m (end - start))
+isSavable m start end = leb start end && (leb end m && ltb (end - start) m)
 
--- a form that is accepted: its first byte is a count, and exactly so many bytes follow
+-- a form is accepted where a count below the limit stands at its front, and exactly that many bytes behind it
+unfoldable pub isCounted : Reading → Bool
+isCounted (unfinished value weight) = false
+isCounted (ends count rest) = eqb (length rest) count
+isCounted (malformed rest) = false
+
 unfoldable pub isForm : ℕ → List ℕ → Bool
-isForm m form = leb 1 (length form) && (eqb (length form) (getD form 0 0 + 1) && isCount m (getD form 0 0))
+isForm m form = leb 1 m && isCounted (read (m - 1) form)
 
--- the held bytes of a form that is accepted
-abbrev pub heldOf : List ℕ → List ℕ
-heldOf form = drop 1 form
+-- the held bytes of a form that is accepted: what stands behind the count
+unfoldable pub behindCount : Reading → List ℕ
+behindCount (unfinished value weight) = []
+behindCount (ends count rest) = rest
+behindCount (malformed rest) = []
+
+abbrev pub heldOf : ℕ → List ℕ → List ℕ
+heldOf m form = behindCount (read (m - 1) form)

@@ -1,4 +1,4 @@
-pub mod Groups
 pub mod Form
 pub mod Save
 pub mod Parser
+pub mod Lent

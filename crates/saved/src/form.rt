@@ -1,29 +1,18 @@
-// The saved form of the bytes that stand in lent places: their count in one byte, then the bytes.
+// The saved form of the bytes that stand in lent places: their count in groups of seven bits, then the bytes.
 use base::copy_in;
-use base::narrow;
-use base::wide;
+use base::fits;
+use groups::Front;
+use refusals::Refusal;
+use writing::Written;
 ghost use mathlib.Core.Path.{_≡_};
-ghost use Prim.Native.Nat.{_<_};
-ghost use Rattle.saved.specs.Form.{isCount, isSavable, isForm};
-ghost use Rattle.saved.specs.Save.{toldBySave, toldByRestore, saveOf, restoreOf};
+ghost use Rattle.writing.specs.Writing.{writtenRow, writeOf};
+ghost use Rattle.saved.specs.Form.{isSavable};
+ghost use Rattle.saved.specs.Save.{saveImage, countSize, restoredRow, restoreOf};
 
-// What a save says: how many bytes it wrote, or why it wrote none.
-pub enum Saved {
-    Wrote(usize),
-    BufferOverflow,
-    BadState,
-}
-
-// What a restore says: how many bytes are held now, or that the form is malformed.
+// How many bytes are held now, or a refusal: what a restore says.
 pub enum Restored {
     Held(usize),
-    BadState,
-}
-
-fn is_count(limit: usize, count: usize) -> bool
-    ensures { λ r. ⌜ r ≡ isCount limit count ⌝ }
-{
-    count < limit && count < 128
+    Refused(Refusal),
 }
 
 fn is_savable(limit: usize, start: usize, end: usize) -> bool
@@ -32,49 +21,55 @@ fn is_savable(limit: usize, start: usize, end: usize) -> bool
     if end < start {
         return false;
     }
-    if limit < end {
-        return false;
-    }
-    is_count(limit, end - start)
-}
-
-pub fn is_form(limit: usize, form: &[u8]) -> bool
-    ensures { λ r. ⌜ r ≡ isForm limit (now (form .entry)) ⌝ }
-{
-    if form.len() < 1 {
-        return false;
-    }
-    let count = wide(form[0]);
-    if form.len() != count + 1 {
-        return false;
-    }
-    is_count(limit, count)
+    end <= limit && end - start < limit
 }
 
 // The saved form of the bytes from start up to end, at the front of out.
-pub fn save_in(places: &[u8], start: usize, end: usize, out: &mut [u8]) -> Saved
-    ensures { λ r. ⌜ (toldBySave r, now (out .exit)) ≡ saveOf (now (places .entry)) start end (now (out .entry)) ⌝ }
+pub fn save_in(places: &[u8], start: usize, end: usize, out: &mut [u8]) -> Written
+    ensures { λ r. ⌜ (writtenRow r, now (out .exit)) ≡ writeOf (saveImage (now (places .entry)) start end) (now (out .entry)) ⌝ }
 {
     if !is_savable(places.len(), start, end) {
-        return Saved::BadState;
+        return Written::Refused(Refusal::BadState);
     }
     let count = end - start;
-    if out.len() < count + 1 {
-        return Saved::BufferOverflow;
+    let from = groups::size(count as u64);
+    if !fits(out.len(), from, count) {
+        return Written::Refused(Refusal::BufferOverflow);
     }
-    out[0] = narrow(count);
-    copy_in(out, 1, &places[start..end], count);
-    Saved::Wrote(count + 1)
+    groups::put(count as u64, out, 0);
+    copy_in(out, from, &places[start..end], count);
+    Written::Wrote(from + count)
+}
+
+// How many bytes the count of a form takes up, or 0 where the form is not accepted.
+fn count_size(limit: usize, form: &[u8]) -> usize
+    ensures { λ r. ⌜ r ≡ countSize limit (now (form .entry)) ⌝ }
+{
+    if limit == 0 {
+        return 0;
+    }
+    let count = groups::read((limit - 1) as u64, form);
+    match count {
+        Front::Number { value, size } => {
+            if (form.len() - size) as u64 == value {
+                return size;
+            }
+            0
+        }
+        Front::Unfinished => 0,
+        Front::Malformed => 0,
+    }
 }
 
 // The bytes of a saved form, at the front of the places: held from place 0 up to the count.
 pub fn restore_in(places: &mut [u8], form: &[u8]) -> Restored
-    ensures { λ r. ⌜ (toldByRestore r, now (places .exit)) ≡ restoreOf (now (form .entry)) (now (places .entry)) ⌝ }
+    ensures { λ r. ⌜ (restoredRow r, now (places .exit)) ≡ restoreOf (now (form .entry)) (now (places .entry)) ⌝ }
 {
-    if !is_form(places.len(), form) {
-        return Restored::BadState;
+    let from = count_size(places.len(), form);
+    if from == 0 {
+        return Restored::Refused(Refusal::BadState);
     }
-    let count = form.len() - 1;
-    copy_in(places, 0, &form[1..], count);
+    let count = form.len() - from;
+    copy_in(places, 0, &form[from..], count);
     Restored::Held(count)
 }

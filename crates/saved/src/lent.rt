@@ -1,46 +1,22 @@
-// Save, restore and reset over 66 lent bytes: start, end, then the 64 places.
+// The save and the restore of a parser that the host keeps: it is lent, as to each call, and a restore changes it in place. Thin over the forms by
+// value.
 use crate::form::Restored;
-use crate::form::Saved;
-use crate::form::is_form;
-use crate::form::save_in;
-use base::copy_in;
-use base::wide;
-ghost use mathlib.Core.Path.{_≡_};
-ghost use Rattle.saved.specs.Save.{toldBySave, toldByRestore, saveLentOf, restoreLentOf, resetLentOf};
+use parser::CrsfParser;
+use writing::Written;
+ghost use Rattle.saved.specs.Lent.{Saves, Resumes};
 
-pub fn save_lent(state: &[u8], out: &mut [u8]) -> Saved
-    ensures { λ r. ⌜ (toldBySave r, now (out .exit)) ≡ saveLentOf (now (state .entry)) (now (out .entry)) ⌝ }
+// What the parser holds is written as its saved form.
+pub fn save(p: &CrsfParser, out: &mut [u8]) -> Written
+    ensures { λ r. ⌜ Saves (now (p .entry)) (now (out .entry)) r (now (out .exit)) ⌝ }
 {
-    if state.len() != 66 {
-        return Saved::BadState;
-    }
-    let start = wide(state[0]);
-    let end = wide(state[1]);
-    save_in(&state[2..], start, end, out)
+    crate::save(*p, out)
 }
 
-pub fn restore_lent(state: &mut [u8], form: &[u8]) -> Restored
-    ensures { λ r. ⌜ (toldByRestore r, now (state .exit)) ≡ restoreLentOf (now (form .entry)) (now (state .entry)) ⌝ }
+// The parser goes on from a saved form. Of a malformed one it stays as it is.
+pub fn restore(p: &mut CrsfParser, form: &[u8]) -> Restored
+    ensures { λ r. ⌜ Resumes (now (p .entry)) (now (form .entry)) (now (p .exit)) r ⌝ }
 {
-    if state.len() != 66 {
-        return Restored::BadState;
-    }
-    if !is_form(64, form) {
-        return Restored::BadState;
-    }
-    state[0] = 0;
-    copy_in(state, 1, form, form.len());
-    Restored::Held(form.len() - 1)
-}
-
-// Forgets the held bytes.
-pub fn reset_lent(state: &mut [u8]) -> Restored
-    ensures { λ r. ⌜ (toldByRestore r, now (state .exit)) ≡ resetLentOf (now (state .entry)) ⌝ }
-{
-    if state.len() != 66 {
-        return Restored::BadState;
-    }
-    state[0] = 0;
-    state[1] = 0;
-    Restored::Held(0)
+    let out = crate::restore(*p, form);
+    *p = out.parser;
+    out.restored
 }

@@ -3,12 +3,13 @@ pub mod form;
 pub mod lent;
 
 use form::Restored;
-use form::Saved;
 use form::restore_in;
 use form::save_in;
 use parser::CrsfParser;
+use writing::Written;
 ghost use mathlib.Core.Path.{_≡_};
-ghost use Rattle.saved.specs.Save.{toldBySave, toldByRestore, saveOf};
+ghost use Rattle.writing.specs.Writing.{writtenRow, writeOf};
+ghost use Rattle.saved.specs.Save.{saveImage, restoredRow};
 ghost use Rattle.saved.specs.Parser.{resumeOf};
 
 // The parser after a restore, and what the restore says.
@@ -17,15 +18,15 @@ pub struct Resumed {
     pub restored: Restored,
 }
 
-pub fn save(p: CrsfParser, out: &mut [u8]) -> Saved
-    ensures { λ r. ⌜ (toldBySave r, now (out .exit)) ≡ saveOf (p .buffer) (p .start) (p .end) (now (out .entry)) ⌝ }
+pub fn save(p: CrsfParser, out: &mut [u8]) -> Written
+    ensures { λ r. ⌜ (writtenRow r, now (out .exit)) ≡ writeOf (saveImage (p .buffer) (p .start) (p .end)) (now (out .entry)) ⌝ }
 {
     let buffer = p.buffer;
     save_in(&buffer, p.start, p.end, out)
 }
 
 pub fn restore(p: CrsfParser, form: &[u8]) -> Resumed
-    ensures { λ r. ⌜ (toldByRestore (r .restored), r .parser) ≡ resumeOf p (now (form .entry)) ⌝ }
+    ensures { λ r. ⌜ (restoredRow (r .restored), r .parser) ≡ resumeOf p (now (form .entry)) ⌝ }
 {
     let mut buffer = p.buffer;
     let restored = restore_in(&mut buffer, form);
@@ -38,7 +39,7 @@ pub fn restore(p: CrsfParser, form: &[u8]) -> Resumed
             },
             restored,
         },
-        Restored::BadState => Resumed {
+        Restored::Refused(_) => Resumed {
             parser: p,
             restored,
         },

@@ -1,8 +1,11 @@
 // Parts of lent bytes: the frame that a call answered with, and a raw view of any bytes.
-use stream::step::Answer;
+use refusals::Refusal;
+use stream::step::Place;
+use stream::step::Reply;
 ghost use mathlib.Core.Path.{_≡_};
 ghost use Rattle.base.specs.Parts.{part};
-ghost use Rattle.view.specs.View.{frameOf, rawShown, rawOf, payloadOf};
+ghost use Rattle.stream.specs.Step.{bytesAt};
+ghost use Rattle.view.specs.View.{frameOf, rawRow, rawOf, payloadOf};
 
 // The len bytes of s from place at on, as far as they are there.
 fn part_of(s: &[u8], at: usize, len: usize) -> &[u8]
@@ -19,38 +22,46 @@ fn part_of(s: &[u8], at: usize, len: usize) -> &[u8]
     &s[at..stop]
 }
 
-// The frame that a call answered with, as a part of the caller's piece or of the held bytes' places. Of any other answer, no bytes.
-pub fn frame<'a>(answer: Answer, piece: &'a [u8], places: &'a [u8]) -> &'a [u8]
-    ensures { λ r. ⌜ now r ≡ frameOf answer (now (piece .entry)) (now (places .entry)) ⌝ }
+fn bytes_at<'a>(place: Place, piece: &'a [u8], places: &'a [u8]) -> &'a [u8]
+    ensures { λ r. ⌜ now r ≡ bytesAt place (now (piece .entry)) (now (places .entry)) ⌝ }
 {
-    match answer {
-        Answer::InPiece(len) => part_of(piece, 0, len),
-        Answer::InHeld { at, len } => part_of(places, at, len),
-        Answer::Stop => &piece[..0],
-        Answer::InvalidSync(_) => &piece[..0],
-        Answer::InvalidPacketLength(_) => &piece[..0],
-        Answer::InvalidCrc { .. } => &piece[..0],
-        Answer::BadState => &piece[..0],
+    match place {
+        Place::InPiece(len) => part_of(piece, 0, len),
+        Place::InHeld { at, len } => part_of(places, at, len),
+    }
+}
+
+// The frame that a call answered with, as a part of the caller's piece or of the held bytes' places. Of any other reply, no bytes.
+pub fn frame<'a>(reply: Reply, piece: &'a [u8], places: &'a [u8]) -> &'a [u8]
+    ensures { λ r. ⌜ now r ≡ frameOf reply (now (piece .entry)) (now (places .entry)) ⌝ }
+{
+    match reply {
+        Reply::Frame(place) => bytes_at(place, piece, places),
+        Reply::More => &piece[..0],
+        Reply::Refused(_) => &piece[..0],
     }
 }
 
 // What any four bytes or more show as a frame. Nothing else is checked.
 pub enum RawView {
     View { address: u8, kind: u8, check: u8 },
-    InvalidPayloadLength,
+    Refused(Refusal),
 }
 
 pub fn raw_view(s: &[u8]) -> RawView
-    ensures { λ r. ⌜ rawShown r ≡ rawOf (now (s .entry)) ⌝ }
+    ensures { λ r. ⌜ rawRow r ≡ rawOf (now (s .entry)) ⌝ }
 {
     let n = s.len();
     if n < 4 {
-        return RawView::InvalidPayloadLength;
+        return RawView::Refused(Refusal::InvalidPayloadLength);
     }
+    let address = s[0];
+    let kind = s[2];
+    let check = s[n - 1];
     RawView::View {
-        address: s[0],
-        kind: s[2],
-        check: s[n - 1],
+        address,
+        kind,
+        check,
     }
 }
 

@@ -29,7 +29,9 @@ add-byte-of : tie.Need-add-byte-of Inv-loop μ-loop
 add-byte-of c = search needs
 
 byte-of-requires : tie.Need-byte-of-requires Inv-loop μ-loop
-byte-of-requires c κs = (omega arith, c .before .before .before .before .pre .1)
+byte-of-requires c κs =
+    let start = c .before .before .before .before in
+    (omega arith, start .pre .1)
 
 add-buffer : tie.Need-add-buffer Inv-loop μ-loop
 add-buffer c = search needs

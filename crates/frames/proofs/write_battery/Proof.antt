@@ -1,39 +1,44 @@
 -- `frames::write_battery` meets its contract: the record is written in its place, and framed there. Assumes nothing.
 use mathlib.Core.Path.{sym, _∙_}
+use Prim.Native.Nat.{ℕ}
+use native.Mathlib.Omega.{arith}
 use borrow.Author.Needs.{needs}
-use Rattle.records.specs.Battery.{batteryImage}
+use lib.ListN.{length}
+use Rattle.writing.specs.declared.Written.the-variants.{Wrote}
+use Rattle.records.specs.Battery.{batteryType, batteryImage}
 use Rattle.records.proofs.BatteryLaws.{battery-long}
-use Rattle.frames.proofs.Addressed.{unaddressed, record-short, record-sealed}
+use Rattle.frames.proofs.Answered.{Goes, goes, refused-frame, record-written}
 use Rattle.frames.proofs.write_battery.Statement.{statement}
 use Rattle.frames.proofs.write_battery.Tie as tie
 
-is-address-requires : tie.Need-is-address-requires
-is-address-requires c κs = search needs
+abbrev Start-of : tie.After-answer-for → tie.Start
+Start-of c = c .before .before .before
 
-returns : tie.Need-returns
-returns c =
-    let a = c .before .before .before .args in
-    unaddressed (a .dest) 8 (batteryImage (a .packet)) (a .buffer .now) (c .before .is-address .ensures) (c .if1 .taken)
+-- eight bytes, or nine with an id
+abbrev size : tie.After-answer-for → ℕ
+size c = c .before .battery-size .result
+
+go : (c : tie.After-answer)
+    → (let a = Start-of (c .before .before) .args in Goes (a .dest) (Wrote (size (c .before .before))) (length (a .buffer .now)))
+go c =
+    let call = c .before .before in
+    let a = Start-of call .args in
+    goes (a .dest) (Wrote (size call)) (length (a .buffer .now)) (call .answer-for .ensures) (c .answer .given .1)
 
 battery-size-requires : tie.Need-battery-size-requires
 battery-size-requires c κs = search needs
 
-add-if2 : tie.Need-add-if2
-add-if2 c = search needs
+answer-for-requires : tie.Need-answer-for-requires
+answer-for-requires c κs = search needs
 
-returns-2 : tie.Need-returns-2
-returns-2 c =
-    let sized = c .before in
-    let right = sized .before in
-    let a = right .before .before .before .args in
-    let long = battery-long (a .packet) ∙ sym (sized .battery-size .ensures .0) in
-    record-short _ (sized .battery-size .result) (a .dest) 8 long (a .buffer .now) (right .before .is-address .ensures) (right .if1 .left) (c .if2 .taken)
+enum-known-answer : tie.Need-enum-known-answer
+enum-known-answer c = search needs
 
 sub-to-bytes : tie.Need-sub-to-bytes
-sub-to-bytes c = search needs
+sub-to-bytes c = omega (arith, go (c .before) .enough)
 
 part-to-bytes-start : tie.Need-part-to-bytes-start
-part-to-bytes-start c = search needs
+part-to-bytes-start c = omega (arith, go (c .before) .enough)
 
 part-to-bytes-end : tie.Need-part-to-bytes-end
 part-to-bytes-end c = search needs
@@ -42,36 +47,50 @@ to-bytes-requires : tie.Need-to-bytes-requires
 to-bytes-requires c κs = search needs
 
 seal-requires : tie.Need-seal-requires
-seal-requires c κs = search needs
+seal-requires c κs =
+    let record-made = c .before .before .before in
+    let wrote = record-made .before .before .before in
+    let enough = go wrote .enough in
+    search needs
+
+enum-known-answer-2 : tie.Need-enum-known-answer-2
+enum-known-answer-2 c = search needs
 
 same-length : tie.Need-same-length
 same-length c = search needs
 
-returns-3 : tie.Need-returns-3
-returns-3 c =
+returns : tie.Need-returns
+returns c =
     let framing = c .before .before in
     let record-made = framing .before .before .before .before in
-    let room = record-made .before .before in
-    let sized = room .before in
-    let right = sized .before in
-    let a = right .before .before .before .args in
-    let long = battery-long (a .packet) ∙ sym (sized .battery-size .ensures .0) in
-    record-sealed _ (sized .battery-size .result) (a .dest) 8 long (a .buffer .now) (right .before .is-address .ensures) (right .if1 .left)
-    (room .if2 .left) (record-made .to-bytes .ensures) (framing .seal .ensures)
+    let wrote = record-made .before .before .before in
+    let call = wrote .before .before in
+    let a = Start-of call .args in
+    record-written (a .dest) batteryType (Wrote (size call)) _ (battery-long (a .packet) ∙ sym (call .before .battery-size .ensures .0))
+    (a .buffer .now) (call .answer-for .ensures) (wrote .answer .given .1) (record-made .to-bytes .ensures) (framing .seal .ensures)
+
+returns-2 : tie.Need-returns-2
+returns-2 c =
+    let refusal = c .before in
+    let call = refusal .before .before in
+    let a = Start-of call .args in
+    refused-frame (a .dest) batteryType (a .buffer .now) (Wrote (size call)) (batteryImage (a .packet))
+    (battery-long (a .packet) ∙ sym (call .before .battery-size .ensures .0))
+    (call .answer-for .ensures) (refusal .answer2 .given .1)
 
 pub write-battery-spec : {M : Type 1} → statement M
 write-battery-spec =
     tie.close
     (tie.spec
-    is-address-requires
-    returns
     battery-size-requires
-    add-if2
-    returns-2
+    answer-for-requires
+    enum-known-answer
     sub-to-bytes
     part-to-bytes-start
     part-to-bytes-end
     to-bytes-requires
     seal-requires
+    enum-known-answer-2
     same-length
-    returns-3)
+    returns
+    returns-2)

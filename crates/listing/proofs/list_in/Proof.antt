@@ -1,7 +1,7 @@
 -- `listing::list_in` meets its contract. Assumes nothing.
 use borrow.Author.Tests.{not-true, not-false}
 use Rattle.base.proofs.Tests.{told-not}
-use Rattle.listing.proofs.Drained.{refused-list, drained-list}
+use Rattle.listing.proofs.Filled.{refused-list}
 use borrow.Author.Needs.{needs}
 use Rattle.listing.proofs.list_in.Statement.{statement}
 use Rattle.listing.proofs.list_in.Tie as tie
@@ -12,8 +12,8 @@ is-span-requires c κs = search needs
 returns : tie.Need-returns
 returns c = refused-list (not-true _ (told-not (c .before .is-span .ensures) (c .if1 .taken)))
 
-drain-requires : tie.Need-drain-requires
-drain-requires c κs =
+fill-requires : tie.Need-fill-requires
+fill-requires c κs =
     not-false _ (told-not (c .before .before .before .is-span .ensures) (c .before .before .if1 .left))
 
 same-length : tie.Need-same-length
@@ -23,10 +23,9 @@ same-length-2 : tie.Need-same-length-2
 same-length-2 c = search needs
 
 returns-2 : tie.Need-returns-2
-returns-2 c =
-    drained-list (not-false _ (told-not (c .before .before .before .before .before .before .before .before .is-span .ensures) (c .before .before .before .before .before .before .before .if1 .left))) (c .before .before .before .before .drain .ensures)
+returns-2 c = c .before .before .before .before .fill .ensures
 
 pub list-in-spec : {M : Type 1} → statement M
 list-in-spec =
     tie.close
-    (tie.spec is-span-requires returns drain-requires same-length same-length-2 returns-2)
+    (tie.spec is-span-requires returns fill-requires same-length same-length-2 returns-2)

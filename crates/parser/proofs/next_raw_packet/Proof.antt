@@ -1,8 +1,9 @@
--- `parser::next_raw_packet` meets its contract: the buffer has 64 places. Assumes nothing.
+-- `parser::next_raw_packet` meets its contract: the buffer has the limit's places. Assumes nothing.
 use mathlib.Core.Path.{_≡_, subst}
 use Prim.Native.Nat.{ℕ}
 use native.Mathlib.Omega.{arith}
 use lib.ListN.{length}
+use Rattle.reading.specs.Reading.{limit}
 use Rattle.stream.specs.Step.{Steps}
 use borrow.Author.Needs.{needs}
 use Rattle.parser.proofs.next_raw_packet.Statement.{statement}
@@ -18,7 +19,7 @@ returns : tie.Need-returns
 returns c =
     let a = c .before .before .before .before .before .args in
     let step = c .before .step-in in
-    let full : length (a .p .buffer) ≡ 64 = omega arith in
+    let full : length (a .p .buffer) ≡ limit = omega arith in
     subst (λ (m : ℕ). Steps m (a .p .buffer) (a .p .start) (a .p .end) (a .input .now) (step .last .0) (step .result)) full (step .ensures)
 
 pub next-raw-packet-spec : {M : Type 1} → statement M

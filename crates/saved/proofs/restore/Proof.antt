@@ -1,7 +1,7 @@
 -- `saved::restore` meets its contract. Assumes nothing.
 use mathlib.Core.Path.{sym, ap, _∙_}
 use native.Mathlib.Omega.{arith}
-use Rattle.saved.specs.Save.{toldByRestore}
+use Rattle.saved.specs.Save.{restoredRow}
 use Rattle.saved.specs.declared.form.Restored.{Restored}
 use Rattle.saved.proofs.Resumes.{resume-held, resume-refused}
 use borrow.Author.Needs.{needs}
@@ -22,18 +22,20 @@ enum-told c = search needs
 
 returns : tie.Need-returns
 returns c =
-    let a = c .before .before .before .before .before .before .before .before .args in
+    let restored = c .before .before .before .before in
+    let a = restored .before .before .before .before .args in
     let told = c .before .restored .given .1 in
     resume-held (a .p) (a .form .now) (omega arith)
-    (ap (λ (r : Restored). (toldByRestore r, c .before .before .before .before .restore-in .last .0)) (sym told) ∙ c .before .before .before .before .restore-in .ensures)
+    (ap (λ (r : Restored). (restoredRow r, restored .restore-in .last .0)) (sym told) ∙ restored .restore-in .ensures)
 
 returns-2 : tie.Need-returns-2
 returns-2 c =
-    let a = c .before .before .before .before .before .before .before .args in
+    let restored = c .before .before .before in
+    let a = restored .before .before .before .before .args in
     let told = c .enum-told .given .1 in
-    ap (λ (r : Restored). (toldByRestore r, a .p)) told
-    ∙ resume-refused (a .p) (a .form .now) (omega arith)
-    (ap (λ (r : Restored). (toldByRestore r, c .before .before .before .restore-in .last .0)) (sym told) ∙ c .before .before .before .restore-in .ensures)
+    ap (λ (r : Restored). (restoredRow r, a .p)) told
+    ∙ resume-refused (a .p) (a .form .now) (omega arith) _
+    (ap (λ (r : Restored). (restoredRow r, restored .restore-in .last .0)) (sym told) ∙ restored .restore-in .ensures)
 
 pub restore-spec : {M : Type 1} → statement M
 restore-spec =

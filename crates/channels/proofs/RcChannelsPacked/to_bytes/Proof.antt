@@ -7,10 +7,11 @@ use native.Mathlib.Omega.{arith}
 use borrow.Author.Needs.{needs}
 use lib.ListN.{length}
 use Rattle.base.specs.Parts.{pasted}
-use Rattle.layout.specs.declared.Written.the-variants.{Wrote}
-use Rattle.layout.proofs.Writing.{writes, overflows, refuses}
+use Rattle.writing.specs.Writing.{writtenRow}
+use Rattle.writing.specs.declared.Written.the-variants.{Wrote}
+use Rattle.writing.proofs.Writing.{writes, overflows, refuses}
 use Rattle.channels.specs.Digits.{number, Below}
-use Rattle.channels.specs.Channels.{channelBytes, firstAbove}
+use Rattle.channels.specs.Channels.{channelsCount, channelsSize, channelBytes, firstAbove}
 use Rattle.channels.proofs.Digits.{length-digits}
 use Rattle.channels.proofs.FirstAbove.{none-above}
 use Rattle.channels.proofs.Fill.{two-halves}
@@ -22,16 +23,16 @@ abbrev Start-of : tie.Else1 → tie.Start
 Start-of c = c .before .before .before .before .before
 
 -- past the first test no channel is above 2047
-good : (c : tie.Else1) → 16 ≤ firstAbove (Start-of c .args .self .0)
+good : (c : tie.Else1) → channelsCount ≤ firstAbove (Start-of c .args .self .0)
 good c = omega (arith, c .before .first-above .ensures)
 
 in-range : (c : tie.Else1) → Below 11 (Start-of c .args .self .0)
 in-range c =
-    let sixteen : length (Start-of c .args .self .0) ≡ 16 = search needs in
+    let sixteen : length (Start-of c .args .self .0) ≡ channelsCount = search needs in
     none-above (Start-of c .args .self .0) (omega (arith, good c))
 
-wrote : (c : tie.Else1) → length (channelBytes (Start-of c .args .self .0)) ≡ 22
-wrote c = length-digits 8 22 (number 11 (Start-of c .args .self .0))
+wrote : (c : tie.Else1) → length (channelBytes (Start-of c .args .self .0)) ≡ channelsSize
+wrote c = length-digits 8 channelsSize (number 11 (Start-of c .args .self .0))
 
 slice-aggregate-first-above : tie.Need-slice-aggregate-first-above
 slice-aggregate-first-above c = search needs
@@ -49,19 +50,26 @@ returns-2 : tie.Need-returns-2
 returns-2 c =
     let start = Start-of (c .before) .args in
     rw (image-bytes (start .self) (good (c .before)))
-    (overflows (channelBytes (start .self .0)) (start .buffer .now) 22 (wrote (c .before)) (omega arith))
+    (overflows (channelBytes (start .self .0)) (start .buffer .now) channelsSize (wrote (c .before)) (omega arith))
 
 slice-aggregate-put-group : tie.Need-slice-aggregate-put-group
 slice-aggregate-put-group c = search needs
 
 put-group-requires : tie.Need-put-group-requires
-put-group-requires c κs = (search needs, in-range (c .before .before .before))
+put-group-requires c κs =
+    let room = c .before .before in
+    let right = room .before in
+    (search needs, in-range right)
 
 slice-aggregate-put-group-2 : tie.Need-slice-aggregate-put-group-2
 slice-aggregate-put-group-2 c = search needs
 
 put-group-requires-2 : tie.Need-put-group-requires-2
-put-group-requires-2 c κs = (search needs, in-range (c .before .before .before .before .before .before .before .before))
+put-group-requires-2 c κs =
+    let first = c .before .before .before .before in
+    let room = first .before .before .before in
+    let right = room .before in
+    (search needs, in-range right)
 
 same-length : tie.Need-same-length
 same-length c = search needs
@@ -78,7 +86,7 @@ returns-3 c =
     let stored : second .put-group2 .last .0 ≡ pasted d 0 s =
     rw (second .put-group2 .ensures, first .put-group .ensures) (two-halves s d 11 (wrote right) (omega arith)) in
     rw (image-bytes (start .self) (good right))
-    (ap (λ (l : List ℕ). (Wrote 22, l)) stored ∙ writes s d 22 (wrote right) (omega arith))
+    (ap (λ (l : List ℕ). (writtenRow (Wrote channelsSize), l)) stored ∙ writes s d channelsSize (wrote right) (omega arith))
 
 pub to-bytes-spec : {M : Type 1} → statement M
 to-bytes-spec =

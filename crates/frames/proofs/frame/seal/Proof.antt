@@ -1,5 +1,5 @@
 -- `frames::frame::seal` meets its contract: head and check byte are put about the payload. Assumes nothing.
-use mathlib.Core.Path.{_≡_, refl, ap, _∙_}
+use mathlib.Core.Path.{_≡_, ap, _∙_}
 use mathlib.Core.List.{List, [], _∷_}
 use Prim.Native.Nat.{ℕ, _+_, _<_}
 use native.Mathlib.Nat.{mod-eq-of-lt}
@@ -27,9 +27,6 @@ add-put-check c = search needs
 put-check-requires : tie.Need-put-check-requires
 put-check-requires c κs = search needs
 
-add-t9 : tie.Need-add-t9
-add-t9 c = search needs
-
 same-length : tie.Need-same-length
 same-length c = search needs
 
@@ -42,14 +39,12 @@ returns c =
     let n : ℕ = a .size in
     let few : n + 2 < 256 = omega arith in
     let first : head .put-head .last .0 ≡ pasted b 0 (a .dest ∷ (n + 2) ∷ a .kind ∷ []) =
-    head .put-head .ensures ∙ ap (λ (k : ℕ). pasted b 0 (a .dest ∷ k ∷ a .kind ∷ [])) (head .before .narrow .ensures ∙ mod-eq-of-lt few) in (
-      refl,
-      check .put-check .ensures
-          ∙ ap (λ (l : List ℕ). pasted l (n + 3) (remainder (slice 2 (n + 3) l) ∷ [])) first
-          ∙ frame-built n (a .dest) (a .kind) b (omega arith),
-    )
+    head .put-head .ensures ∙ ap (λ (k : ℕ). pasted b 0 (a .dest ∷ k ∷ a .kind ∷ [])) (head .before .narrow .ensures ∙ mod-eq-of-lt few) in
+    check .put-check .ensures
+    ∙ ap (λ (l : List ℕ). pasted l (n + 3) (remainder (slice 2 (n + 3) l) ∷ [])) first
+    ∙ frame-built n (a .dest) (a .kind) b (omega arith)
 
 pub seal-spec : {M : Type 1} → statement M
 seal-spec =
     tie.close
-    (tie.spec add-narrow narrow-requires put-head-requires add-put-check put-check-requires add-t9 same-length returns)
+    (tie.spec add-narrow narrow-requires put-head-requires add-put-check put-check-requires same-length returns)

@@ -1,7 +1,7 @@
 -- `host::read::crsf_read_gps` meets its contract. Assumes nothing.
 use mathlib.Core.Path.{refl}
-use Rattle.positions.specs.Gps.{gpsValues, gpsAnswer}
-use Rattle.values.proofs.Given.{fixed-given, fixed-refused}
+use Rattle.positions.specs.Gps.{gpsAnswer}
+use Rattle.host_records.proofs.Given.{fixed-given, fixed-refused}
 use borrow.Author.Needs.{needs}
 use Rattle.host.proofs.read.crsf_read_gps.Statement.{statement}
 use Rattle.host.proofs.read.crsf_read_gps.Tie as tie
@@ -12,17 +12,8 @@ from-bytes-requires c κs = search needs
 enum-known-read : tie.Need-enum-known-read
 enum-known-read c = search needs
 
-gps-values-requires : tie.Need-gps-values-requires
-gps-values-requires c κs = search needs
-
-placed-requires : tie.Need-placed-requires
-placed-requires c κs = search needs
-
-slice-aggregate-give : tie.Need-slice-aggregate-give
-slice-aggregate-give c = search needs
-
-give-requires : tie.Need-give-requires
-give-requires c κs = search needs
+give-gps-requires : tie.Need-give-gps-requires
+give-gps-requires c κs = search needs
 
 enum-told : tie.Need-enum-told
 enum-told c = search needs
@@ -34,21 +25,19 @@ same-length : tie.Need-same-length
 same-length c = search needs
 
 returns : tie.Need-returns
-unfolding gpsValues gpsAnswer
+unfolding gpsAnswer
 returns c =
     let gave = c .before in
-    let made = gave .before .before .before in
-    let told = made .before .before .before in
-    let read = told .before .before in
-    fixed-given gpsAnswer (read .before .before .args .out .now) (read .from-bytes .ensures) (told .read .given .1) refl refl (made .before .gps-values .ensures)
-    (made .placed .ensures) (gave .give .ensures)
+    let known = gave .before .before .before in
+    let read = known .before .before in
+    fixed-given gpsAnswer (read .before .before .args .out .now) (read .from-bytes .ensures) (known .read .given .1) refl (gave .give-gps .ensures)
 
 returns-2 : tie.Need-returns-2
 unfolding gpsAnswer
 returns-2 c =
-    let told = c .before in
-    let read = told .before .before in
-    fixed-refused gpsAnswer (read .before .before .args .out .now) (read .from-bytes .ensures) (told .enum-told .given .1) refl (c .refuse .ensures)
+    let known = c .before in
+    let read = known .before .before in
+    fixed-refused gpsAnswer (read .before .before .args .out .now) (read .from-bytes .ensures) (known .enum-told .given .1) refl (c .refuse .ensures)
 
 pub crsf-read-gps-spec : {M : Type 1} → statement M
 crsf-read-gps-spec =
@@ -56,10 +45,7 @@ crsf-read-gps-spec =
     (tie.spec
     from-bytes-requires
     enum-known-read
-    gps-values-requires
-    placed-requires
-    slice-aggregate-give
-    give-requires
+    give-gps-requires
     enum-told
     refuse-requires
     same-length

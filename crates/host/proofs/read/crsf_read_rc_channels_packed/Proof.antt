@@ -1,7 +1,7 @@
 -- `host::read::crsf_read_rc_channels_packed` meets its contract. Assumes nothing.
 use mathlib.Core.Path.{ap, _∙_}
 use Prim.Native.Nat.{ℕ}
-use Rattle.values.proofs.Given.{channels-given, channels-refused}
+use Rattle.host_records.proofs.Given.{channels-given, channels-refused}
 use borrow.Author.Needs.{needs}
 use Rattle.host.proofs.read.crsf_read_rc_channels_packed.Statement.{statement}
 use Rattle.host.proofs.read.crsf_read_rc_channels_packed.Tie as tie
@@ -27,17 +27,17 @@ same-length c = search needs
 returns : tie.Need-returns
 returns c =
     let gave = c .before .before in
-    let told = gave .before .before in
-    let read = told .before .before .before in
+    let known = gave .before .before in
+    let read = known .before .before .before in
     let a = read .before .before .before .args in
-    gave .give-channels .ensures ∙ channels-given (a .payload .now) (a .out .now) (read .from-bytes .ensures) (told .enum-told .given .1)
+    gave .give-channels .ensures ∙ channels-given (a .payload .now) (a .out .now) (read .from-bytes .ensures) (known .enum-told .given .1)
 
 returns-2 : tie.Need-returns-2
 returns-2 c =
-    let told = c .before in
-    let read = told .before .before .before in
+    let known = c .before in
+    let read = known .before .before .before in
     let a = read .before .before .before .args in
-    ap (λ (r : ℕ). (r, a .out .now)) (c .refuse .ensures) ∙ channels-refused (a .payload .now) (a .out .now) (read .from-bytes .ensures) (told .enum-told2 .given .1)
+    ap (λ (r : ℕ). (r, a .out .now)) (c .refuse .ensures) ∙ channels-refused (a .payload .now) (a .out .now) (read .from-bytes .ensures) (known .enum-told2 .given .1)
 
 pub crsf-read-rc-channels-packed-spec : {M : Type 1} → statement M
 crsf-read-rc-channels-packed-spec =

@@ -1,7 +1,7 @@
 -- `host::state::crsf_held` meets its contract. Assumes nothing.
 use mathlib.Core.Path.{ap, _∙_}
-use Rattle.told.specs.Answer.{packed}
-use Rattle.told.proofs.Saves.{unsized, crossed, past, holds}
+use Rattle.host_answer.specs.Answer.{packed}
+use Rattle.host_answer.proofs.Saves.{unsized, crossed, past, holds}
 use borrow.Author.Needs.{needs}
 use Rattle.host.proofs.state.crsf_held.Statement.{statement}
 use Rattle.host.proofs.state.crsf_held.Tie as tie

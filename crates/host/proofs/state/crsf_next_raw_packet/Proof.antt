@@ -1,7 +1,7 @@
 -- `host::state::crsf_next_raw_packet` meets its contract. Assumes nothing.
 use mathlib.Core.Path.{_∙_, ap}
-use Rattle.told.specs.Answer.{packed}
-use Rattle.told.proofs.Fits.{in-bytes, call-fits}
+use Rattle.host_answer.specs.Answer.{packed}
+use Rattle.host_answer.proofs.Fits.{in-bytes, call-fits}
 use borrow.Author.Needs.{needs}
 use Rattle.host.proofs.state.crsf_next_raw_packet.Statement.{statement}
 use Rattle.host.proofs.state.crsf_next_raw_packet.Tie as tie
@@ -9,8 +9,8 @@ use Rattle.host.proofs.state.crsf_next_raw_packet.Tie as tie
 step-lent-requires : tie.Need-step-lent-requires
 step-lent-requires c κs = search needs
 
-told-call-requires : tie.Need-told-call-requires
-told-call-requires c κs = search needs
+answer-call-requires : tie.Need-answer-call-requires
+answer-call-requires c κs = search needs
 
 pack-requires : tie.Need-pack-requires
 pack-requires c κs = search needs
@@ -24,9 +24,9 @@ returns c =
     record {
       answered = call .step-lent .result;
       lends = call .step-lent .ensures;
-      told = c .pack .ensures ∙ ap packed (c .before .told-call .ensures ∙ in-bytes _ (call-fits (call .step-lent .ensures)));
+      packs = c .pack .ensures ∙ ap packed (c .before .answer-call .ensures ∙ in-bytes _ (call-fits (call .step-lent .ensures)));
     }
 
 pub crsf-next-raw-packet-spec : {M : Type 1} → statement M
 crsf-next-raw-packet-spec =
-    tie.close (tie.spec step-lent-requires told-call-requires pack-requires same-length returns)
+    tie.close (tie.spec step-lent-requires answer-call-requires pack-requires same-length returns)

@@ -1,5 +1,5 @@
 -- `host::state::crsf_reset` meets its contract. Assumes nothing.
-use Rattle.told.proofs.Saves.{reset-fits, told-on}
+use Rattle.host_answer.proofs.Saves.{reset-fits, answered-on}
 use borrow.Author.Needs.{needs}
 use Rattle.host.proofs.state.crsf_reset.Statement.{statement}
 use Rattle.host.proofs.state.crsf_reset.Tie as tie
@@ -14,7 +14,7 @@ same-length : tie.Need-same-length
 same-length c = search needs
 
 returns : tie.Need-returns
-returns c = told-on (c .before .before .before .reset-lent .ensures) (reset-fits _) (c .restored-answer .ensures)
+returns c = answered-on (c .before .before .before .reset-lent .ensures) (reset-fits _) (c .restored-answer .ensures)
 
 pub crsf-reset-spec : {M : Type 1} → statement M
 crsf-reset-spec =

@@ -1,5 +1,5 @@
 -- `host::state::crsf_restore` meets its contract. Assumes nothing.
-use Rattle.told.proofs.Saves.{restore-fits, told-on}
+use Rattle.host_answer.proofs.Saves.{restore-fits, answered-on}
 use borrow.Author.Needs.{needs}
 use Rattle.host.proofs.state.crsf_restore.Statement.{statement}
 use Rattle.host.proofs.state.crsf_restore.Tie as tie
@@ -14,7 +14,7 @@ same-length : tie.Need-same-length
 same-length c = search needs
 
 returns : tie.Need-returns
-returns c = told-on (c .before .before .before .restore-lent .ensures) (restore-fits _ _) (c .restored-answer .ensures)
+returns c = answered-on (c .before .before .before .restore-lent .ensures) (restore-fits _ _) (c .restored-answer .ensures)
 
 pub crsf-restore-spec : {M : Type 1} → statement M
 crsf-restore-spec =

@@ -1,5 +1,5 @@
 -- `host::state::crsf_save` meets its contract. Assumes nothing.
-use Rattle.told.proofs.Saves.{save-fits, told-on}
+use Rattle.host_answer.proofs.Saves.{save-fits, answered-on}
 use borrow.Author.Needs.{needs}
 use Rattle.host.proofs.state.crsf_save.Statement.{statement}
 use Rattle.host.proofs.state.crsf_save.Tie as tie
@@ -14,7 +14,7 @@ same-length : tie.Need-same-length
 same-length c = search needs
 
 returns : tie.Need-returns
-returns c = told-on (c .before .before .before .save-lent .ensures) (save-fits _ _) (c .saved-answer .ensures)
+returns c = answered-on (c .before .before .before .save-lent .ensures) (save-fits _ _) (c .saved-answer .ensures)
 
 pub crsf-save-spec : {M : Type 1} → statement M
 crsf-save-spec = tie.close (tie.spec save-lent-requires saved-answer-requires same-length returns)

@@ -1,6 +1,6 @@
 -- `host::write::crsf_write_baro_altitude` meets its contract. Assumes nothing.
 use Rattle.frames.proofs.Fits.{baro-altitude-small}
-use Rattle.told.proofs.Writes.{frame-told}
+use Rattle.host_answer.proofs.Writes.{frame-answered}
 use mir.Syntax.{w8}
 use mir.ValLaws.{toZ-ofZ}
 use borrow.Author.Needs.{needs}
@@ -19,7 +19,7 @@ same-length c = search needs
 returns : tie.Need-returns
 returns c =
     let fits = c .before .before .before .before .before .before .fits in
-    simp (toZ-ofZ w8 _ (fits .vertical-speed-packed)) at (frame-told _ _ _ _ (c .before .before .before .write-baro-altitude .ensures) (baro-altitude-small _) tt (c .wrote .ensures))
+    simp (toZ-ofZ w8 _ (fits .vertical-speed-packed)) at (frame-answered _ _ _ _ (c .before .before .before .write-baro-altitude .ensures) (baro-altitude-small _) tt (c .wrote .ensures))
 
 pub crsf-write-baro-altitude-spec : {M : Type 1} → statement M
 crsf-write-baro-altitude-spec =

@@ -1,7 +1,7 @@
 -- `host::write::crsf_write_battery` meets its contract. Assumes nothing.
 use Rattle.records.specs.declared.battery.Battery.{Battery}
 use Rattle.frames.proofs.Fits.{battery-small}
-use Rattle.told.proofs.Writes.{frame-told}
+use Rattle.host_answer.proofs.Writes.{frame-answered}
 use mir.Syntax.{w16}
 use mir.Val.{toZ, ofZ}
 use mir.ValLaws.{toZ-ofZ}
@@ -25,7 +25,7 @@ returns c =
     let a = start .args in
     let packet : Battery =
     record { voltage = toZ w16 (ofZ w16 (a .voltage)); current = toZ w16 (ofZ w16 (a .current)); «capacity_used» = a .capacity-used; remaining = a .remaining; id = a .id } in
-    simp (toZ-ofZ w16 _ (fits .voltage), toZ-ofZ w16 _ (fits .current)) at (frame-told _ _ _ _ (c .before .before .before .write-battery .ensures) (battery-small packet) tt (c .wrote .ensures))
+    simp (toZ-ofZ w16 _ (fits .voltage), toZ-ofZ w16 _ (fits .current)) at (frame-answered _ _ _ _ (c .before .before .before .write-battery .ensures) (battery-small packet) tt (c .wrote .ensures))
 
 pub crsf-write-battery-spec : {M : Type 1} → statement M
 crsf-write-battery-spec =

@@ -1,6 +1,6 @@
 -- `host::write::crsf_write_gps` meets its contract. Assumes nothing.
 use Rattle.frames.proofs.Fits.{gps-small}
-use Rattle.told.proofs.Writes.{frame-told}
+use Rattle.host_answer.proofs.Writes.{frame-answered}
 use mir.Syntax.{w32}
 use mir.ValLaws.{toZ-ofZ}
 use borrow.Author.Needs.{needs}
@@ -19,7 +19,7 @@ same-length c = search needs
 returns : tie.Need-returns
 returns c =
     let fits = c .before .before .before .before .before .before .fits in
-    simp (toZ-ofZ w32 _ (fits .latitude), toZ-ofZ w32 _ (fits .longitude)) at (frame-told _ _ _ _ (c .before .before .before .write-gps .ensures) (gps-small _) tt (c .wrote .ensures))
+    simp (toZ-ofZ w32 _ (fits .latitude), toZ-ofZ w32 _ (fits .longitude)) at (frame-answered _ _ _ _ (c .before .before .before .write-gps .ensures) (gps-small _) tt (c .wrote .ensures))
 
 pub crsf-write-gps-spec : {M : Type 1} → statement M
 crsf-write-gps-spec = tie.close (tie.spec write-gps-requires wrote-requires same-length returns)

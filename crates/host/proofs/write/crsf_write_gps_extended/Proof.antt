@@ -1,6 +1,6 @@
 -- `host::write::crsf_write_gps_extended` meets its contract. Assumes nothing.
 use Rattle.frames.proofs.Fits.{gps-extended-small}
-use Rattle.told.proofs.Writes.{frame-told}
+use Rattle.host_answer.proofs.Writes.{frame-answered}
 use mir.Syntax.{w16}
 use mir.ValLaws.{toZ-ofZ}
 use borrow.Author.Needs.{needs}
@@ -19,7 +19,7 @@ same-length c = search needs
 returns : tie.Need-returns
 returns c =
     let fits = c .before .before .before .before .before .before .fits in
-    simp (toZ-ofZ w16 _ (fits .n-speed), toZ-ofZ w16 _ (fits .e-speed), toZ-ofZ w16 _ (fits .v-speed), toZ-ofZ w16 _ (fits .h-speed-acc), toZ-ofZ w16 _ (fits .track-acc), toZ-ofZ w16 _ (fits .alt-ellipsoid), toZ-ofZ w16 _ (fits .h-acc), toZ-ofZ w16 _ (fits .v-acc)) at (frame-told _ _ _ _ (c .before .before .before .write-gps-extended .ensures) (gps-extended-small _) tt (c .wrote .ensures))
+    simp (toZ-ofZ w16 _ (fits .n-speed), toZ-ofZ w16 _ (fits .e-speed), toZ-ofZ w16 _ (fits .v-speed), toZ-ofZ w16 _ (fits .h-speed-acc), toZ-ofZ w16 _ (fits .track-acc), toZ-ofZ w16 _ (fits .alt-ellipsoid), toZ-ofZ w16 _ (fits .h-acc), toZ-ofZ w16 _ (fits .v-acc)) at (frame-answered _ _ _ _ (c .before .before .before .write-gps-extended .ensures) (gps-extended-small _) tt (c .wrote .ensures))
 
 pub crsf-write-gps-extended-spec : {M : Type 1} → statement M
 crsf-write-gps-extended-spec =

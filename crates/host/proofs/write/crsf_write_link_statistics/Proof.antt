@@ -1,6 +1,6 @@
 -- `host::write::crsf_write_link_statistics` meets its contract. Assumes nothing.
 use Rattle.frames.proofs.Fits.{link-statistics-small}
-use Rattle.told.proofs.Writes.{frame-told}
+use Rattle.host_answer.proofs.Writes.{frame-answered}
 use mir.Syntax.{w8}
 use mir.ValLaws.{toZ-ofZ}
 use borrow.Author.Needs.{needs}
@@ -19,7 +19,7 @@ same-length c = search needs
 returns : tie.Need-returns
 returns c =
     let fits = c .before .before .before .before .before .before .fits in
-    simp (toZ-ofZ w8 _ (fits .uplink-snr), toZ-ofZ w8 _ (fits .downlink-snr)) at (frame-told _ _ _ _ (c .before .before .before .write-link-statistics .ensures) (link-statistics-small _) tt (c .wrote .ensures))
+    simp (toZ-ofZ w8 _ (fits .uplink-snr), toZ-ofZ w8 _ (fits .downlink-snr)) at (frame-answered _ _ _ _ (c .before .before .before .write-link-statistics .ensures) (link-statistics-small _) tt (c .wrote .ensures))
 
 pub crsf-write-link-statistics-spec : {M : Type 1} → statement M
 crsf-write-link-statistics-spec =

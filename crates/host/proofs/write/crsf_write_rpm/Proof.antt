@@ -3,8 +3,8 @@ use mathlib.Core.Path.{refl, ap, _∙_}
 use Rattle.layout.specs.Writing.{Image}
 use Rattle.layout.specs.declared.Written.{Written}
 use Rattle.frames.proofs.Fits.{rpm-small}
-use Rattle.told.specs.Write.{toldFrame}
-use Rattle.told.proofs.Writes.{frame-told, rpm-index, no-record, new-record, new-refused}
+use Rattle.host_answer.specs.Written.{answerFrame}
+use Rattle.host_answer.proofs.Writes.{frame-answered, rpm-index, no-record, new-record, new-refused}
 use borrow.Author.Needs.{needs}
 use Rattle.host.proofs.write.crsf_write_rpm.Statement.{statement}
 use Rattle.host.proofs.write.crsf_write_rpm.Tie as tie
@@ -39,16 +39,16 @@ returns c =
     let told = sent .before .before in
     let made = told .before .before .before in
     let a = made .before .before .args in
-    frame-told _ _ _ _ (sent .write-rpm .ensures) (rpm-small _) (rpm-index _) (c .wrote .ensures)
-    ∙ ap (λ (i : Image). toldFrame (a .dest) 0x0C i (a .buffer .now)) (new-record _ _ (made .new .ensures) (told .enum-told .given .1))
+    frame-answered _ _ _ _ (sent .write-rpm .ensures) (rpm-small _) (rpm-index _) (c .wrote .ensures)
+    ∙ ap (λ (i : Image). answerFrame (a .dest) 0x0C i (a .buffer .now)) (new-record _ _ (made .new .ensures) (told .enum-told .given .1))
 
 returns-2 : tie.Need-returns-2
 returns-2 c =
     let told = c .before .before in
     let made = told .before .before .before in
     let a = made .before .before .args in
-    frame-told _ _ _ _ (ap (λ (w : Written). (w, a .buffer .now)) (c .before .no-record .ensures) ∙ no-record (a .dest) 0x0C (a .buffer .now)) tt refl (c .wrote2 .ensures)
-    ∙ ap (λ (i : Image). toldFrame (a .dest) 0x0C i (a .buffer .now)) (new-refused _ _ (made .new .ensures) (told .enum-told2 .given .1))
+    frame-answered _ _ _ _ (ap (λ (w : Written). (w, a .buffer .now)) (c .before .no-record .ensures) ∙ no-record (a .dest) 0x0C (a .buffer .now)) tt refl (c .wrote2 .ensures)
+    ∙ ap (λ (i : Image). answerFrame (a .dest) 0x0C i (a .buffer .now)) (new-refused _ _ (made .new .ensures) (told .enum-told2 .given .1))
 
 pub crsf-write-rpm-spec : {M : Type 1} → statement M
 crsf-write-rpm-spec =

@@ -1,7 +1,6 @@
 -- `saved::form::is_savable` meets its contract. Assumes nothing.
 use borrow.Author.Tests.{le-leb, lt-leb}
 use Rattle.saved.specs.Form.{isSavable}
-use borrow.Author.Needs.{needs}
 use Rattle.saved.proofs.form.is_savable.Statement.{statement}
 use Rattle.saved.proofs.form.is_savable.Tie as tie
 
@@ -11,15 +10,11 @@ returns c = simp (lt-leb _ _ (c .if1 .taken))
 
 returns-2 : tie.Need-returns-2
 unfolding isSavable
-returns-2 c = simp (le-leb _ _ (c .before .if1 .left), lt-leb _ _ (c .if2 .taken))
-
-is-count-requires : tie.Need-is-count-requires
-is-count-requires c κs = search needs
+returns-2 c = simp (le-leb _ _ (c .before .if1 .left), le-leb _ _ (c .if2 .taken))
 
 returns-3 : tie.Need-returns-3
 unfolding isSavable
-returns-3 c =
-    simp (le-leb _ _ (c .before .before .if1 .left), le-leb _ _ (c .before .if2 .left), c .is-count .ensures)
+returns-3 c = simp (le-leb _ _ (c .before .if1 .left), lt-leb _ _ (c .if2 .left))
 
 pub is-savable-spec : {M : Type 1} → statement M
-is-savable-spec = tie.close (tie.spec returns returns-2 is-count-requires returns-3)
+is-savable-spec = tie.close (tie.spec returns returns-2 returns-3)

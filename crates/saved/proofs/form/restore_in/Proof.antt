@@ -1,42 +1,36 @@
 -- `saved::form::restore_in` meets its contract. Assumes nothing.
-use mathlib.Core.Path.{_≡_, refl, _∙_, ap}
-use mathlib.Core.Bool.{true}
+use mathlib.Core.Path.{_≡_, ap, _∙_}
 use mathlib.Core.List.{List}
 use Prim.Native.Nat.{ℕ, _-_}
 use native.Mathlib.Omega.{arith}
-use borrow.Author.Tests.{not-true, not-false}
 use lib.ListN.{length, drop, length-drop}
 use lib.Seq.{take-all}
 use Rattle.base.specs.Parts.{copied}
-use Rattle.base.proofs.Tests.{told-not}
-use Rattle.saved.specs.Form.{isForm}
-use Rattle.saved.proofs.Forms.{Accepted, accepted, restore-refused, restore-held}
+use Rattle.saved.proofs.Forms.{Opened, opened, not-opened, restore-refused, restore-held}
 use borrow.Author.Needs.{needs}
 use Rattle.saved.proofs.form.restore_in.Statement.{statement}
 use Rattle.saved.proofs.form.restore_in.Tie as tie
 
-good : (c : tie.Else1) → (let a = c .before .before .before .before .args in isForm (length (a .places .now)) (a .form .now) ≡ true)
-good c = not-false _ (told-not (c .before .is-form .ensures) (c .if1 .left))
+accepted : (c : tie.Else1)
+    → (let a = c .before .before .before .before .args in Opened (length (a .places .now)) (a .form .now) (c .before .count-size .result))
+accepted c = opened _ _ (c .before .count-size .ensures) (c .if1 .left)
 
-form : (c : tie.Else1) → (let a = c .before .before .before .before .args in Accepted (length (a .places .now)) (a .form .now))
-form c = accepted _ _ (good c)
-
-is-form-requires : tie.Need-is-form-requires
-is-form-requires c κs = search needs
+count-size-requires : tie.Need-count-size-requires
+count-size-requires c κs = search needs
 
 returns : tie.Need-returns
 returns c =
     let a = c .before .before .before .before .args in
-    restore-refused (a .form .now) (a .places .now) (not-true _ (told-not (c .before .is-form .ensures) (c .if1 .taken)))
+    restore-refused (a .form .now) (a .places .now) (not-opened _ _ (c .before .count-size .ensures) (c .if1 .taken))
 
 sub-count : tie.Need-sub-count
-sub-count c = form c .some
+sub-count c = accepted c .inside
 
 sub-copy-in : tie.Need-sub-copy-in
-sub-copy-in c = form (c .before) .some
+sub-copy-in c = accepted (c .before) .inside
 
 part-copy-in-start : tie.Need-part-copy-in-start
-part-copy-in-start c = form (c .before) .some
+part-copy-in-start c = accepted (c .before) .inside
 
 part-copy-in-end : tie.Need-part-copy-in-end
 part-copy-in-end c = search needs
@@ -49,17 +43,20 @@ same-length c = search needs
 
 returns-2 : tie.Need-returns-2
 returns-2 c =
-    let a = c .before .before .before .before .before .before .before .before .before .args in
+    let copy = c .before .before in
+    let test = copy .before .before .before in
+    let a = test .before .before .before .before .args in
     let f = a .form .now in
-    restore-held f (a .places .now) (good (c .before .before .before .before .before)) refl
-    (c .before .before .copy-in .ensures
-    ∙ ap (λ (l : List ℕ). copied (a .places .now) 0 l (length f - 1)) (take-all (length f - 1) (drop 1 f) (simp length-drop (omega arith))))
+    let from = test .before .count-size .result in
+    restore-held f (a .places .now) (accepted test)
+    (copy .copy-in .ensures
+    ∙ ap (λ (l : List ℕ). copied (a .places .now) 0 l (length f - from)) (take-all (length f - from) (drop from f) (simp length-drop (omega arith))))
 
 pub restore-in-spec : {M : Type 1} → statement M
 restore-in-spec =
     tie.close
     (tie.spec
-    is-form-requires
+    count-size-requires
     returns
     sub-count
     sub-copy-in

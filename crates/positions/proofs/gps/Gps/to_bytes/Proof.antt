@@ -2,7 +2,7 @@
 -- Assumes nothing.
 use lib.Dec.{lit≤}
 use Rattle.positions.specs.Gps.{gpsLayout, gpsValues}
-use Rattle.fields.proofs.Writers.{Typed, putFrom, no-room, wrote-all}
+use Rattle.layout.proofs.Writers.{Typed, putFrom, no-room, wrote-all}
 use borrow.Author.Needs.{needs}
 use Rattle.positions.proofs.gps.Gps.to_bytes.Statement.{statement}
 use Rattle.positions.proofs.gps.Gps.to_bytes.Tie as tie
@@ -48,7 +48,14 @@ returns-2 c =
     let room = latitude .before .before .before in
     let start = room .before .before in
     wrote-all gpsLayout (gpsValues (start .args .self)) (lit≤ tt) (start .args .buffer .now) (room .if1 .left) (typed start)
-    (rw (satellites .put-u8 .ensures, altitude .put-u163 .ensures, heading .put-u162 .ensures, groundspeed .put-u16 .ensures, longitude .put-i322 .ensures, latitude .put-i32 .ensures))
+    (rw (
+      satellites .put-u8 .ensures,
+      altitude .put-u163 .ensures,
+      heading .put-u162 .ensures,
+      groundspeed .put-u16 .ensures,
+      longitude .put-i322 .ensures,
+      latitude .put-i32 .ensures,
+    ))
 
 pub to-bytes-spec : {M : Type 1} → statement M
 to-bytes-spec =

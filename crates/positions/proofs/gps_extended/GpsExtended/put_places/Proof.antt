@@ -3,7 +3,7 @@
 use native.Mathlib.Omega.{arith}
 use lib.ListN.{drop}
 use Rattle.positions.specs.GpsExtended.{gpsExtendedLayout, gpsExtendedValues}
-use Rattle.fields.proofs.Writers.{Typed, putFrom, put-fields}
+use Rattle.layout.proofs.Writers.{Typed, putFrom, put-fields}
 use borrow.Author.Needs.{needs}
 use Rattle.positions.proofs.gps_extended.GpsExtended.put_places.Statement.{statement}
 use Rattle.positions.proofs.gps_extended.GpsExtended.put_places.Tie as tie
@@ -44,7 +44,14 @@ returns c =
     let alt-ellipsoid = h-acc .before .before .before .before .before in
     let start = alt-ellipsoid .before .before .before .before in
     put-fields (drop 6 gpsExtendedLayout) (drop 6 (gpsExtendedValues (start .args .self))) 11 (start .args .buffer .now) (omega (arith, start .pre)) (typed start)
-    (rw (v-dop .put-u83 .ensures, h-dop .put-u82 .ensures, reserved .put-u8 .ensures, v-acc .put-i163 .ensures, h-acc .put-i162 .ensures, alt-ellipsoid .put-i16 .ensures))
+    (rw (
+      v-dop .put-u83 .ensures,
+      h-dop .put-u82 .ensures,
+      reserved .put-u8 .ensures,
+      v-acc .put-i163 .ensures,
+      h-acc .put-i162 .ensures,
+      alt-ellipsoid .put-i16 .ensures,
+    ))
 
 pub put-places-spec : {M : Type 1} → statement M
 put-places-spec =

@@ -3,7 +3,7 @@
 use native.Mathlib.Omega.{arith}
 use lib.ListN.{take}
 use Rattle.positions.specs.GpsExtended.{gpsExtendedLayout, gpsExtendedValues}
-use Rattle.fields.proofs.Writers.{Typed, putFrom, put-fields}
+use Rattle.layout.proofs.Writers.{Typed, putFrom, put-fields}
 use borrow.Author.Needs.{needs}
 use Rattle.positions.proofs.gps_extended.GpsExtended.put_speeds.Statement.{statement}
 use Rattle.positions.proofs.gps_extended.GpsExtended.put_speeds.Tie as tie
@@ -51,7 +51,14 @@ returns c =
     let fix-type = n-speed .before .before .before .before .before in
     let start = fix-type .before .before .before in
     put-fields (take 6 gpsExtendedLayout) (take 6 (gpsExtendedValues (start .args .self))) 0 (start .args .buffer .now) (omega (arith, start .pre)) (typed start)
-    (rw (track-acc .put-i165 .ensures, h-speed-acc .put-i164 .ensures, v-speed .put-i163 .ensures, e-speed .put-i162 .ensures, n-speed .put-i16 .ensures, fix-type .put-u8 .ensures))
+    (rw (
+      track-acc .put-i165 .ensures,
+      h-speed-acc .put-i164 .ensures,
+      v-speed .put-i163 .ensures,
+      e-speed .put-i162 .ensures,
+      n-speed .put-i16 .ensures,
+      fix-type .put-u8 .ensures,
+    ))
 
 pub put-speeds-spec : {M : Type 1} → statement M
 put-speeds-spec =

@@ -2,7 +2,7 @@
 -- Assumes nothing.
 use lib.Dec.{lit≤}
 use Rattle.positions.specs.GpsExtended.{gpsExtendedLayout, gpsExtendedValues}
-use Rattle.fields.proofs.Writers.{no-room, wrote-in-two}
+use Rattle.layout.proofs.Writers.{no-room, wrote-in-two}
 use borrow.Author.Needs.{needs}
 use Rattle.positions.proofs.gps_extended.GpsExtended.to_bytes.Statement.{statement}
 use Rattle.positions.proofs.gps_extended.GpsExtended.to_bytes.Tie as tie

@@ -2,7 +2,7 @@
 -- Assumes nothing.
 use lib.Dec.{lit≤}
 use Rattle.records.specs.BaroAltitude.{baroAltitudeLayout, baroAltitudeValues}
-use Rattle.fields.proofs.Writers.{Typed, putFrom, no-room, wrote-all}
+use Rattle.layout.proofs.Writers.{Typed, putFrom, no-room, wrote-all}
 use borrow.Author.Needs.{needs}
 use Rattle.records.proofs.baro_altitude.BaroAltitude.to_bytes.Statement.{statement}
 use Rattle.records.proofs.baro_altitude.BaroAltitude.to_bytes.Tie as tie

@@ -7,15 +7,15 @@ use Prim.Native.Nat.{ℕ}
 use borrow.Author.Tests.{le-leb, lt-leb}
 use lib.IntN.{ℤ, pos}
 use lib.ListN.{length, take}
-use Rattle.fields.specs.Answer.{read}
-use Rattle.records.specs.Battery.{batteryLayout, batteryValues, batteryAnswer, batteryRead}
-use Rattle.fields.proofs.Readers.{gotFrom, got}
+use Rattle.layout.specs.Decoded.{decoded}
+use Rattle.records.specs.Battery.{batteryLayout, shortLayout, batteryValues, batteryDecoded, batteryRead}
+use Rattle.layout.proofs.Readers.{gotFrom, got}
 use borrow.Author.Needs.{needs}
 use Rattle.records.proofs.battery.Battery.from_bytes.Statement.{statement}
 use Rattle.records.proofs.battery.Battery.from_bytes.Tie as tie
 
 returns : tie.Need-returns
-unfolding batteryAnswer batteryRead
+unfolding batteryDecoded batteryRead
 returns c =
     let n = length (c .before .before .args .payload .now) in
     simp (lt-leb 9 n (omega arith), lt-leb 8 n (c .if1 .taken))
@@ -33,7 +33,7 @@ get-u8-requires : tie.Need-get-u8-requires
 get-u8-requires c κs = search needs
 
 returns-2 : tie.Need-returns-2
-unfolding batteryAnswer batteryValues batteryRead gotFrom
+unfolding batteryDecoded batteryValues batteryRead gotFrom
 returns-2 c =
     let remaining = c .before in
     let capacity-used = remaining .before in
@@ -43,13 +43,13 @@ returns-2 c =
     let payload : List ℕ = room .before .before .args .payload .now in
     simp (lt-leb 9 (length payload) (c .if2 .taken), le-leb 8 (length payload) (room .if1 .left))
     (rw (remaining .get-u8 .ensures, capacity-used .get-u24 .ensures, current .get-i162 .ensures, voltage .get-i16 .ensures)
-    (ap (λ (vs : List ℤ). read (vs ++ (pos 0 ∷ []))) (got (take 4 batteryLayout) payload tt (room .before .shared-slice-known .given))))
+    (ap (λ (vs : List ℤ). decoded (vs ++ (pos 0 ∷ []))) (got shortLayout payload tt (room .before .shared-slice-known .given))))
 
 get-u8-requires-2 : tie.Need-get-u8-requires-2
 get-u8-requires-2 c κs = search needs
 
 returns-3 : tie.Need-returns-3
-unfolding batteryAnswer batteryValues batteryRead gotFrom
+unfolding batteryDecoded batteryValues batteryRead gotFrom
 returns-3 c =
     let long = c .before in
     let remaining = long .before in
@@ -60,7 +60,7 @@ returns-3 c =
     let payload : List ℕ = room .before .before .args .payload .now in
     simp (le-leb 9 (length payload) (long .if2 .left))
     (rw (c .get-u82 .ensures, remaining .get-u8 .ensures, capacity-used .get-u24 .ensures, current .get-i162 .ensures, voltage .get-i16 .ensures)
-    (ap read (got batteryLayout payload tt (room .before .shared-slice-known .given))))
+    (ap decoded (got batteryLayout payload tt (room .before .shared-slice-known .given))))
 
 pub from-bytes-spec : {M : Type 1} → statement M
 from-bytes-spec =

@@ -2,8 +2,8 @@
 -- Assumes nothing.
 use native.Mathlib.Omega.{arith}
 use lib.ListN.{take}
-use Rattle.records.specs.Battery.{batteryLayout, batteryValues}
-use Rattle.fields.proofs.Writers.{Typed, putFrom, put-fields}
+use Rattle.records.specs.Battery.{shortLayout, batteryValues}
+use Rattle.layout.proofs.Writers.{Typed, putFrom, put-fields}
 use borrow.Author.Needs.{needs}
 use Rattle.records.proofs.battery.Battery.put_short.Statement.{statement}
 use Rattle.records.proofs.battery.Battery.put_short.Tie as tie
@@ -23,7 +23,7 @@ put-u8-requires c κs = search needs
 same-length : tie.Need-same-length
 same-length c = search needs
 
-typed : (c : tie.Start) → Typed (take 4 batteryLayout) (take 4 (batteryValues (c .args .self)))
+typed : (c : tie.Start) → Typed shortLayout (take 4 (batteryValues (c .args .self)))
 unfolding batteryValues
 typed c = search needs
 
@@ -35,7 +35,7 @@ returns c =
     let current = capacity-used .before .before .before .before in
     let voltage = current .before .before .before .before .before in
     let start = voltage .before .before .before .before in
-    put-fields (take 4 batteryLayout) (take 4 (batteryValues (start .args .self))) 0 (start .args .buffer .now) (omega (arith, start .pre)) (typed start)
+    put-fields shortLayout (take 4 (batteryValues (start .args .self))) 0 (start .args .buffer .now) (omega (arith, start .pre)) (typed start)
     (rw (remaining .put-u8 .ensures, capacity-used .put-u24 .ensures, current .put-i162 .ensures, voltage .put-i16 .ensures))
 
 pub put-short-spec : {M : Type 1} → statement M

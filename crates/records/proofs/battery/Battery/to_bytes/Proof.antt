@@ -5,8 +5,8 @@ use native.Mathlib.Omega.{arith}
 use borrow.Author.Tests.{eq-eqb, ne-eqb}
 use lib.Dec.{lit≤}
 use lib.ListN.{take, drop}
-use Rattle.records.specs.Battery.{batteryLayout, batteryValues}
-use Rattle.fields.proofs.Writers.{putFrom, put-fields, no-room, wrote, wrote-in-two}
+use Rattle.records.specs.Battery.{batteryLayout, shortLayout, batteryValues}
+use Rattle.layout.proofs.Writers.{putFrom, put-fields, no-room, wrote, wrote-in-two}
 use borrow.Author.Needs.{needs}
 use Rattle.records.proofs.battery.Battery.to_bytes.Statement.{statement}
 use Rattle.records.proofs.battery.Battery.to_bytes.Tie as tie
@@ -16,7 +16,7 @@ unfolding batteryValues
 returns c =
     let start = c .before .before .before in
     simp (eq-eqb (start .args .self .id) 0 (c .before .if1 .taken))
-    (no-room (take 4 batteryLayout) (batteryValues (start .args .self)) (lit≤ tt) (start .args .buffer .now) (c .if2 .taken))
+    (no-room shortLayout (batteryValues (start .args .self)) (lit≤ tt) (start .args .buffer .now) (c .if2 .taken))
 
 put-short-requires : tie.Need-put-short-requires
 put-short-requires c κs = search needs
@@ -44,7 +44,7 @@ returns-3 c =
     let room = short .before .before in
     let start = room .before .before .before in
     simp (eq-eqb (start .args .self .id) 0 (room .before .if1 .taken))
-    (wrote (take 4 batteryLayout) (batteryValues (start .args .self)) (lit≤ tt) (start .args .buffer .now) (room .if2 .left) (short .put-short .ensures))
+    (wrote shortLayout (batteryValues (start .args .self)) (lit≤ tt) (start .args .buffer .now) (room .if2 .left) (short .put-short .ensures))
 
 same-length-2 : tie.Need-same-length-2
 same-length-2 c = search needs

@@ -1,14 +1,14 @@
 -- `records::link_statistics::LinkStatistics::from_bytes` meets its contract: each field is read at its place of the layout.
 -- Assumes nothing.
-use Rattle.records.specs.LinkStatistics.{linkStatisticsLayout, linkStatisticsValues, linkStatisticsAnswer}
-use Rattle.fields.proofs.Readers.{gotFrom, refused, all-got}
+use Rattle.records.specs.LinkStatistics.{linkStatisticsLayout, linkStatisticsValues, linkStatisticsDecoded}
+use Rattle.layout.proofs.Readers.{gotFrom, too-short, all-got}
 use borrow.Author.Needs.{needs}
 use Rattle.records.proofs.link_statistics.LinkStatistics.from_bytes.Statement.{statement}
 use Rattle.records.proofs.link_statistics.LinkStatistics.from_bytes.Tie as tie
 
 returns : tie.Need-returns
-unfolding linkStatisticsAnswer
-returns c = refused linkStatisticsLayout (c .before .before .args .payload .now) (c .if1 .taken)
+unfolding linkStatisticsDecoded
+returns c = too-short linkStatisticsLayout (c .before .before .args .payload .now) (c .if1 .taken)
 
 get-u8-requires : tie.Need-get-u8-requires
 get-u8-requires c κs = search needs
@@ -41,7 +41,7 @@ get-i8-requires-2 : tie.Need-get-i8-requires-2
 get-i8-requires-2 c κs = search needs
 
 returns-2 : tie.Need-returns-2
-unfolding linkStatisticsAnswer linkStatisticsValues gotFrom
+unfolding linkStatisticsDecoded linkStatisticsValues gotFrom
 returns-2 c =
     let downlink-link-quality = c .before in
     let downlink-rssi = downlink-link-quality .before in
@@ -54,7 +54,18 @@ returns-2 c =
     let uplink-rssi1 = uplink-rssi2 .before in
     let room = uplink-rssi1 .before in
     all-got linkStatisticsLayout (room .before .before .args .payload .now) tt (room .before .shared-slice-known .given) (room .if1 .left)
-    (rw (c .get-i82 .ensures, downlink-link-quality .get-u88 .ensures, downlink-rssi .get-u87 .ensures, uplink-tx-power .get-u86 .ensures, rf-mode .get-u85 .ensures, active-antenna .get-u84 .ensures, uplink-snr .get-i8 .ensures, uplink-link-quality .get-u83 .ensures, uplink-rssi2 .get-u82 .ensures, uplink-rssi1 .get-u8 .ensures))
+    (rw (
+      c .get-i82 .ensures,
+      downlink-link-quality .get-u88 .ensures,
+      downlink-rssi .get-u87 .ensures,
+      uplink-tx-power .get-u86 .ensures,
+      rf-mode .get-u85 .ensures,
+      active-antenna .get-u84 .ensures,
+      uplink-snr .get-i8 .ensures,
+      uplink-link-quality .get-u83 .ensures,
+      uplink-rssi2 .get-u82 .ensures,
+      uplink-rssi1 .get-u8 .ensures,
+    ))
 
 pub from-bytes-spec : {M : Type 1} → statement M
 from-bytes-spec =

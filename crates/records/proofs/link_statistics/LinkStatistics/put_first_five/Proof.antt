@@ -3,7 +3,7 @@
 use native.Mathlib.Omega.{arith}
 use lib.ListN.{take}
 use Rattle.records.specs.LinkStatistics.{linkStatisticsLayout, linkStatisticsValues}
-use Rattle.fields.proofs.Writers.{Typed, putFrom, put-fields}
+use Rattle.layout.proofs.Writers.{Typed, putFrom, put-fields}
 use borrow.Author.Needs.{needs}
 use Rattle.records.proofs.link_statistics.LinkStatistics.put_first_five.Statement.{statement}
 use Rattle.records.proofs.link_statistics.LinkStatistics.put_first_five.Tie as tie
@@ -40,7 +40,13 @@ returns c =
     let uplink-rssi1 = uplink-rssi2 .before .before .before .before in
     let start = uplink-rssi1 .before .before .before in
     put-fields (take 5 linkStatisticsLayout) (take 5 (linkStatisticsValues (start .args .self))) 0 (start .args .buffer .now) (omega (arith, start .pre)) (typed start)
-    (rw (active-antenna .put-u84 .ensures, uplink-snr .put-i8 .ensures, uplink-link-quality .put-u83 .ensures, uplink-rssi2 .put-u82 .ensures, uplink-rssi1 .put-u8 .ensures))
+    (rw (
+      active-antenna .put-u84 .ensures,
+      uplink-snr .put-i8 .ensures,
+      uplink-link-quality .put-u83 .ensures,
+      uplink-rssi2 .put-u82 .ensures,
+      uplink-rssi1 .put-u8 .ensures,
+    ))
 
 pub put-first-five-spec : {M : Type 1} → statement M
 put-first-five-spec =

@@ -3,7 +3,7 @@
 use native.Mathlib.Omega.{arith}
 use lib.ListN.{drop}
 use Rattle.records.specs.LinkStatistics.{linkStatisticsLayout, linkStatisticsValues}
-use Rattle.fields.proofs.Writers.{Typed, putFrom, put-fields}
+use Rattle.layout.proofs.Writers.{Typed, putFrom, put-fields}
 use borrow.Author.Needs.{needs}
 use Rattle.records.proofs.link_statistics.LinkStatistics.put_other_five.Statement.{statement}
 use Rattle.records.proofs.link_statistics.LinkStatistics.put_other_five.Tie as tie
@@ -40,7 +40,13 @@ returns c =
     let rf-mode = uplink-tx-power .before .before .before .before in
     let start = rf-mode .before .before .before in
     put-fields (drop 5 linkStatisticsLayout) (drop 5 (linkStatisticsValues (start .args .self))) 5 (start .args .buffer .now) (omega (arith, start .pre)) (typed start)
-    (rw (downlink-snr .put-i8 .ensures, downlink-link-quality .put-u84 .ensures, downlink-rssi .put-u83 .ensures, uplink-tx-power .put-u82 .ensures, rf-mode .put-u8 .ensures))
+    (rw (
+      downlink-snr .put-i8 .ensures,
+      downlink-link-quality .put-u84 .ensures,
+      downlink-rssi .put-u83 .ensures,
+      uplink-tx-power .put-u82 .ensures,
+      rf-mode .put-u8 .ensures,
+    ))
 
 pub put-other-five-spec : {M : Type 1} → statement M
 put-other-five-spec =

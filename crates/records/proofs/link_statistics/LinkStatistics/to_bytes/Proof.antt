@@ -2,7 +2,7 @@
 -- Assumes nothing.
 use lib.Dec.{lit≤}
 use Rattle.records.specs.LinkStatistics.{linkStatisticsLayout, linkStatisticsValues}
-use Rattle.fields.proofs.Writers.{no-room, wrote-in-two}
+use Rattle.layout.proofs.Writers.{no-room, wrote-in-two}
 use borrow.Author.Needs.{needs}
 use Rattle.records.proofs.link_statistics.LinkStatistics.to_bytes.Statement.{statement}
 use Rattle.records.proofs.link_statistics.LinkStatistics.to_bytes.Tie as tie

@@ -1,3 +1,0 @@
-pub mod Drains
-pub mod Runs
-pub mod Unique

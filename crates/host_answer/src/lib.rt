@@ -1,0 +1,5 @@
+// What a host's entries answer: eight bytes in one number.
+pub mod answer;
+pub mod reply;
+pub mod restored;
+pub mod written;

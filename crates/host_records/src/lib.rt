@@ -1,0 +1,211 @@
+// The numbers of a record, at the front of a lent slice.
+use base::copy_numbers;
+use base::narrow;
+use channels::RcChannelsPacked;
+use host_answer::answer::HostAnswer;
+use host_answer::answer::count;
+use host_answer::answer::pack;
+use host_answer::answer::placed;
+use host_answer::answer::refuse;
+use positions::gps::Gps;
+use positions::gps_extended::GpsExtended;
+use records::baro_altitude::BaroAltitude;
+use records::battery::Battery;
+use records::link_statistics::LinkStatistics;
+use refusals::Refusal;
+use rpm::Rpm;
+ghost use mathlib.Core.Path.{_≡_};
+ghost use mathlib.Core.List.{_++_};
+ghost use Prim.Native.Nat.{_≤_};
+ghost use lib.ListN.{length, take, drop};
+ghost use Rattle.positions.specs.Gps.{gpsValues};
+ghost use Rattle.positions.specs.GpsExtended.{gpsExtendedValues};
+ghost use Rattle.records.specs.LinkStatistics.{linkStatisticsValues};
+ghost use Rattle.records.specs.Battery.{batteryValues};
+ghost use Rattle.records.specs.BaroAltitude.{baroAltitudeValues};
+ghost use Rattle.host_records.specs.Read.{given, givenShort, givenAll, keptBattery, answerRpm, givenRpm};
+
+// How many values the first n are: n, or all that there are.
+fn at_most(values: &[i32], n: usize) -> usize
+    ensures { λ r. ⌜ r ≡ length (take n (now (values .entry))) ⌝ }
+{
+    if values.len() < n {
+        return values.len();
+    }
+    n
+}
+
+// The first n of the values, and the answer where there is room for them.
+fn give(answer: HostAnswer, values: &[i32], n: usize, out: &mut [i32]) -> u64
+    ensures { λ r. ⌜ (r, now (out .exit)) ≡ given answer (take n (now (values .entry))) (now (out .entry)) ⌝ }
+{
+    let count = at_most(values, n);
+    if out.len() < count {
+        return refuse(Refusal::BufferOverflow);
+    }
+    copy_numbers(out, values, count);
+    pack(answer)
+}
+
+// All of the values, and how many they are.
+fn give_all(values: &[i32], out: &mut [i32]) -> u64
+    ensures { λ r. ⌜ (r, now (out .exit)) ≡ givenShort (now (values .entry)) (now (out .entry)) ⌝ }
+{
+    let n = values.len();
+    give(placed(0, 0, 0, narrow(n)), values, n, out)
+}
+
+fn link_statistics_values(x: LinkStatistics) -> [i32; 10]
+    ensures { λ r. ⌜ r ≡ linkStatisticsValues x ⌝ }
+{
+    [
+        x.uplink_rssi_1 as i32,
+        x.uplink_rssi_2 as i32,
+        x.uplink_link_quality as i32,
+        x.uplink_snr as i32,
+        x.active_antenna as i32,
+        x.rf_mode as i32,
+        x.uplink_tx_power as i32,
+        x.downlink_rssi as i32,
+        x.downlink_link_quality as i32,
+        x.downlink_snr as i32,
+    ]
+}
+
+pub fn give_link_statistics(x: LinkStatistics, out: &mut [i32]) -> u64
+    ensures { λ r. ⌜ (r, now (out .exit)) ≡ givenAll (linkStatisticsValues x) (now (out .entry)) ⌝ }
+{
+    let values = link_statistics_values(x);
+    give_all(&values, out)
+}
+
+fn gps_values(x: Gps) -> [i32; 6]
+    ensures { λ r. ⌜ r ≡ gpsValues x ⌝ }
+{
+    [
+        x.latitude,
+        x.longitude,
+        x.groundspeed as i32,
+        x.heading as i32,
+        x.altitude as i32,
+        x.satellites as i32,
+    ]
+}
+
+pub fn give_gps(x: Gps, out: &mut [i32]) -> u64
+    ensures { λ r. ⌜ (r, now (out .exit)) ≡ givenAll (gpsValues x) (now (out .entry)) ⌝ }
+{
+    let values = gps_values(x);
+    give_all(&values, out)
+}
+
+fn gps_extended_values(x: GpsExtended) -> [i32; 12]
+    ensures { λ r. ⌜ r ≡ gpsExtendedValues x ⌝ }
+{
+    [
+        x.fix_type as i32,
+        x.n_speed as i32,
+        x.e_speed as i32,
+        x.v_speed as i32,
+        x.h_speed_acc as i32,
+        x.track_acc as i32,
+        x.alt_ellipsoid as i32,
+        x.h_acc as i32,
+        x.v_acc as i32,
+        x.reserved as i32,
+        x.h_dop as i32,
+        x.v_dop as i32,
+    ]
+}
+
+pub fn give_gps_extended(x: GpsExtended, out: &mut [i32]) -> u64
+    ensures { λ r. ⌜ (r, now (out .exit)) ≡ givenAll (gpsExtendedValues x) (now (out .entry)) ⌝ }
+{
+    let values = gps_extended_values(x);
+    give_all(&values, out)
+}
+
+fn battery_values(x: Battery) -> [i32; 5]
+    ensures { λ r. ⌜ r ≡ batteryValues (keptBattery x) ⌝ }
+{
+    [
+        x.voltage as i32,
+        x.current as i32,
+        (x.capacity_used % 0x100_0000) as i32,
+        x.remaining as i32,
+        x.id as i32,
+    ]
+}
+
+pub fn give_battery(x: Battery, out: &mut [i32]) -> u64
+    ensures { λ r. ⌜ (r, now (out .exit)) ≡ givenAll (batteryValues (keptBattery x)) (now (out .entry)) ⌝ }
+{
+    let values = battery_values(x);
+    give_all(&values, out)
+}
+
+fn baro_altitude_values(x: BaroAltitude) -> [i32; 2]
+    ensures { λ r. ⌜ r ≡ baroAltitudeValues x ⌝ }
+{
+    [x.altitude_packed as i32, x.vertical_speed_packed as i32]
+}
+
+pub fn give_baro_altitude(x: BaroAltitude, out: &mut [i32]) -> u64
+    ensures { λ r. ⌜ (r, now (out .exit)) ≡ givenAll (baroAltitudeValues x) (now (out .entry)) ⌝ }
+{
+    let values = baro_altitude_values(x);
+    give_all(&values, out)
+}
+
+fn copy_channels(out: &mut [u16], channels: &[u16], n: usize)
+    requires { ⌜ (n ≤ length (now out)) × (n ≤ length (now channels)) ⌝ }
+    ensures { λ _. ⌜ now (out .exit) ≡ take n (now (channels .entry)) ++ drop n (now (out .entry)) ⌝ }
+{
+    let mut i = 0;
+    while i < n {
+        out[i] = channels[i];
+        i += 1;
+    }
+}
+
+// As `give_all`, of channels.
+fn give_all_channels(channels: &[u16], out: &mut [u16]) -> u64
+    ensures { λ r. ⌜ (r, now (out .exit)) ≡ givenShort (now (channels .entry)) (now (out .entry)) ⌝ }
+{
+    let n = channels.len();
+    if out.len() < n {
+        return refuse(Refusal::BufferOverflow);
+    }
+    copy_channels(out, channels, n);
+    count(n)
+}
+
+pub fn give_channels(channels: RcChannelsPacked, out: &mut [u16]) -> u64
+    ensures { λ r. ⌜ (r, now (out .exit)) ≡ givenAll (channels .0) (now (out .entry)) ⌝ }
+{
+    let all = channels.0;
+    give_all_channels(&all, out)
+}
+
+// How many RPM values were read, and the source id.
+fn answer_rpm(n: u8, id: u8) -> HostAnswer
+    ensures { λ r. ⌜ r ≡ answerRpm n id ⌝ }
+{
+    HostAnswer {
+        number: 0,
+        taken: 0,
+        in_state: 0,
+        at: 0,
+        len: n,
+        first: id,
+        second: 0,
+    }
+}
+
+pub fn give_rpm(x: Rpm, out: &mut [i32]) -> u64
+    ensures { λ r. ⌜ (r, now (out .exit)) ≡ givenRpm x (now (out .entry)) ⌝ }
+{
+    let n = x.count;
+    let values = x.rpm_values;
+    give(answer_rpm(narrow(n), x.rpm_source_id), &values, n, out)
+}

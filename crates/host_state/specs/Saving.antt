@@ -1,0 +1,36 @@
+-- What the count of held bytes, a reset, a save and a restore answer and leave (RULES 9, 14). Reset and restore overwrite the state, so of it they test
+-- only its length.
+-- Assumes nothing.
+use Prim.Native.Nat.{ℕ, _-_}
+use mathlib.Core.Bool.{_&&_}
+use mathlib.Core.List.{List}
+use lib.ListN.{length}
+use Rattle.base.specs.Choice.{if_then_else_}
+use Rattle.base.specs.Parts.{pasted}
+use Rattle.refusals.specs.Row.{rowOf}
+use Rattle.refusals.specs.declared.Refusal.the-variants.{BadState}
+use Rattle.writing.specs.Writing.{Image, refused}
+use Rattle.reading.specs.Reading.{limit}
+use Rattle.saved.specs.Form.{isForm, heldOf}
+use Rattle.saved.specs.Save.{saveImage, heldRow}
+use Rattle.host_state.specs.State.{stateOf, startIn, endIn, placesIn, hasSize, isState}
+
+-- how many bytes are held
+unfoldable pub heldRowOf : List ℕ → List ℕ
+heldRowOf state = if isState state then heldRow (endIn state - startIn state) else rowOf BadState
+
+-- the row, and the state afterwards
+unfoldable pub resetState : List ℕ → List ℕ × List ℕ
+resetState state = if hasSize state then (heldRow 0, stateOf 0 0 (placesIn state)) else (rowOf BadState, state)
+
+-- what a save writes
+unfoldable pub stateImage : List ℕ → Image
+stateImage state = if hasSize state then saveImage (placesIn state) (startIn state) (endIn state) else refused BadState
+
+-- the row, and the state afterwards: it holds the bytes of the form, at the front of its places
+unfoldable pub restoreState : List ℕ → List ℕ → List ℕ × List ℕ
+restoreState form state =
+    let held = heldOf limit form in
+    if hasSize state && isForm limit form
+    then (heldRow (length held), stateOf 0 (length held) (pasted (placesIn state) 0 held))
+    else (rowOf BadState, state)

@@ -1,0 +1,39 @@
+-- The host's state as bytes (RULES 14): start, end, then as many places as the limit. Here alone is said where these stand, and how many bytes that is.
+-- Assumes nothing.
+use Prim.Native.Nat.{ℕ, _+_}
+use mathlib.Core.Bool.{Bool, _&&_}
+use mathlib.Core.List.{List, _∷_}
+use lib.Dec.{eqb}
+use lib.ListN.{length, getD, drop}
+use Rattle.reading.specs.Reading.{limit}
+use Rattle.stream.specs.Places.{heldIn}
+use Rattle.stream.specs.Step.{isSpan}
+
+-- where the places begin
+abbrev pub placesAt : ℕ
+placesAt = 2
+
+abbrev pub size : ℕ
+size = placesAt + limit
+
+abbrev pub stateOf : ℕ → ℕ → List ℕ → List ℕ
+stateOf start end places = start ∷ end ∷ places
+
+abbrev pub startIn : List ℕ → ℕ
+startIn state = getD state 0 0
+
+abbrev pub endIn : List ℕ → ℕ
+endIn state = getD state 1 0
+
+abbrev pub placesIn : List ℕ → List ℕ
+placesIn state = drop placesAt state
+
+abbrev pub heldBy : List ℕ → List ℕ
+heldBy state = heldIn (placesIn state) (startIn state) (endIn state)
+
+unfoldable pub hasSize : List ℕ → Bool
+hasSize state = eqb (length state) size
+
+-- a valid state: its start and its end mark a part of its places
+unfoldable pub isState : List ℕ → Bool
+isState state = hasSize state && isSpan limit (startIn state) (endIn state)

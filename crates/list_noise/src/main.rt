@@ -1,3 +1,0 @@
-fn main() {
-    listing_io::list_input();
-}

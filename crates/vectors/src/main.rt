@@ -1,0 +1,16 @@
+// Runs published vectors and worked cases, and writes what the library gives. The stored output was made from what was published, and from the rules.
+mod check_byte;
+mod edges;
+mod lists;
+mod show;
+
+use show::heading;
+
+fn main() {
+    heading(b"The check byte");
+    check_byte::vectors();
+    heading(b"Every byte as an address and as a packet type");
+    lists::every_byte();
+    heading(b"Both sides of each edge");
+    edges::cases();
+}

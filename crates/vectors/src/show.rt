@@ -1,0 +1,29 @@
+// Bytes on the standard output.
+use libc::STDOUT_FILENO;
+
+pub fn heading(text: &[u8]) {
+    io::write_all(STDOUT_FILENO, b"-- ");
+    io::write_all(STDOUT_FILENO, text);
+    io::write_all(STDOUT_FILENO, b"\n");
+}
+
+pub fn wide(b: u8) -> u64 {
+    b as u64
+}
+
+pub fn spelled(bytes: &[u8]) {
+    let mut i = 0;
+    while i < bytes.len() {
+        io::print_hex(STDOUT_FILENO, wide(bytes[i]), 2);
+        io::write_all(STDOUT_FILENO, b" ");
+        i += 1;
+    }
+}
+
+// The first n of the bytes, if there are that many.
+pub fn shown(bytes: &[u8], n: usize) {
+    if n <= bytes.len() {
+        spelled(&bytes[0..n]);
+    }
+    io::write_all(STDOUT_FILENO, b"\n");
+}
