@@ -58,8 +58,8 @@ slice-write-state-2 c =
     let two = two-written (stateBefore restored) (fits (restored .before .before)) (restored .restore-in .last .0) in
     simp length-set (omega arith)
 
-enum-told : tie.Need-enum-told
-enum-told c = search needs
+enum-is : tie.Need-enum-is
+enum-is c = search needs
 
 same-length-2 : tie.Need-same-length-2
 same-length-2 c = search needs
@@ -68,11 +68,11 @@ returns-2 : tie.Need-returns-2
 returns-2 c =
     let held = c .before .before in
     let restored = held .before .before .before .before in
-    let told = held .restored .given .1 in
+    let is = held .restored .given .1 in
     let s = stateBefore restored in
     let f = fits (restored .before .before) in
     let left = restored .restore-in .last .0 in
-    restore-done s f _ _ (ap (λ (r : Restored). (restoredRow r, left)) (sym told) ∙ restored .restore-in .ensures) (c .narrow .ensures)
+    restore-done s f _ _ (ap (λ (r : Restored). (restoredRow r, left)) (sym is) ∙ restored .restore-in .ensures) (c .narrow .ensures)
 
 same-length-3 : tie.Need-same-length-3
 same-length-3 c = search needs
@@ -80,12 +80,12 @@ same-length-3 c = search needs
 returns-3 : tie.Need-returns-3
 returns-3 c =
     let restored = c .before .before .before .before in
-    let told = c .enum-told .given .1 in
+    let is = c .enum-is .given .1 in
     let s = stateBefore restored in
     let f = fits (restored .before .before) in
     let left = restored .restore-in .last .0 in
-    ap (λ (r : Restored). (restoredRow r, written s f left)) told
-    ∙ restore-kept s f _ _ (ap (λ (r : Restored). (restoredRow r, left)) (sym told) ∙ restored .restore-in .ensures)
+    ap (λ (r : Restored). (restoredRow r, written s f left)) is
+    ∙ restore-kept s f _ _ (ap (λ (r : Restored). (restoredRow r, left)) (sym is) ∙ restored .restore-in .ensures)
 
 pub restore-spec : {M : Type 1} → statement M
 restore-spec =
@@ -102,7 +102,7 @@ restore-spec =
     slice-write-state
     narrow-requires
     slice-write-state-2
-    enum-told
+    enum-is
     same-length-2
     returns-2
     same-length-3
