@@ -1,4 +1,4 @@
-//! Refusals, by document 01's numbers.
+//! Refusals, by their numbers (RULES 1).
 use crate::entry::Answer;
 use std::fmt;
 

@@ -1,4 +1,4 @@
-//! Document 01's cases, cuts, saves and restores midway, hostile states, and the records, through the wrappers.
+//! Worked cases, cuts, saves and restores midway, hostile states, and the records, through the wrappers.
 use crsf_host::*;
 
 /// What a stream says, in the listing's lines, in pieces of so many bytes; with a save and a restore before the call of that number.
