@@ -15,60 +15,60 @@ use Rattle.writing.specs.Writing.{bytes, refused}
 use Rattle.layout.specs.Decoded.{readRow}
 use Rattle.layout.specs.declared.ReadAnswer.the-variants.{Record}
 use Rattle.channels.specs.Digits.{number, digits, Below}
-use Rattle.channels.specs.Channels.{channelsOf, channelBytes, channelsRead, firstAbove, channelsImage}
+use Rattle.channels.specs.Channels.{channelsCount, channelsSize, channelsOf, channelBytes, channelsRead, firstAbove, channelsImage}
 use Rattle.channels.specs.declared.RcChannelsPacked.{RcChannelsPacked}
 use Rattle.channels.proofs.Digits.{there-and-back, length-digits, digits-below}
 use Rattle.channels.proofs.FirstAbove.{none-above, not-above}
 
 module _ (c : RcChannelsPacked) where
-  pub image-refused : firstAbove (c .0) < 16 → channelsImage c ≡ refused (ChannelRange (firstAbove (c .0)))
+  pub image-refused : firstAbove (c .0) < channelsCount → channelsImage c ≡ refused (ChannelRange (firstAbove (c .0)))
   unfolding channelsImage
-  image-refused h = simp (lt-ltb _ 16 h)
+  image-refused h = simp (lt-ltb _ channelsCount h)
 
-  pub image-bytes : 16 ≤ firstAbove (c .0) → channelsImage c ≡ bytes (channelBytes (c .0))
+  pub image-bytes : channelsCount ≤ firstAbove (c .0) → channelsImage c ≡ bytes (channelBytes (c .0))
   unfolding channelsImage
-  image-bytes h = simp (le-ltb _ 16 h)
+  image-bytes h = simp (le-ltb _ channelsCount h)
 
   -- where there are bytes to write, they are those of channels in range
-  known : (payload : List ℕ) → channelsImage c ≡ bytes payload → (16 ≤ firstAbove (c .0)) × (channelBytes (c .0) ≡ payload)
+  known : (payload : List ℕ) → channelsImage c ≡ bytes payload → (channelsCount ≤ firstAbove (c .0)) × (channelBytes (c .0) ≡ payload)
   known payload e =
       ⊎-elim
-      (λ (bad : firstAbove (c .0) < 16). let no = image-refused bad in let z : _≡_ {A = ℕ} 0 1 = cc in absurd (omega arith))
-      (λ (good : 16 ≤ firstAbove (c .0)). let these = image-bytes good in (good, cc))
-      (below (firstAbove (c .0)) 16)
+      (λ (bad : firstAbove (c .0) < channelsCount). let no = image-refused bad in let z : _≡_ {A = ℕ} 0 1 = cc in absurd (omega arith))
+      (λ (good : channelsCount ≤ firstAbove (c .0)). let these = image-bytes good in (good, cc))
+      (below (firstAbove (c .0)) channelsCount)
 
-  pub channels-length : (payload : List ℕ) → channelsImage c ≡ bytes payload → length payload ≡ 22
-  channels-length payload e = rw (← (known payload e .1)) (length-digits 8 22 (number 11 (c .0)))
+  pub channels-length : (payload : List ℕ) → channelsImage c ≡ bytes payload → length payload ≡ channelsSize
+  channels-length payload e = rw (← (known payload e .1)) (length-digits 8 channelsSize (number 11 (c .0)))
 
 -- sets of channels and 22-byte strings are one to one
-pub channels-back : (channels : List ℕ) → length channels ≡ 16 → Below 11 channels → channelsOf (channelBytes channels) ≡ channels
-channels-back cs n h = subst (λ (m : ℕ). digits 11 m (number 8 (channelBytes cs)) ≡ cs) n (there-and-back 8 11 22 cs h (omega (arith, n)))
+pub channels-back : (channels : List ℕ) → length channels ≡ channelsCount → Below 11 channels → channelsOf (channelBytes channels) ≡ channels
+channels-back cs n h = subst (λ (m : ℕ). digits 11 m (number 8 (channelBytes cs)) ≡ cs) n (there-and-back 8 11 channelsSize cs h (omega (arith, n)))
 
-pub bytes-back : (payload : List ℕ) → length payload ≡ 22 → Bytes payload → channelBytes (channelsOf payload) ≡ payload
-bytes-back bs n h = subst (λ (m : ℕ). digits 8 m (number 11 (channelsOf bs)) ≡ bs) n (there-and-back 11 8 16 bs h (omega (arith, n)))
+pub bytes-back : (payload : List ℕ) → length payload ≡ channelsSize → Bytes payload → channelBytes (channelsOf payload) ≡ payload
+bytes-back bs n h = subst (λ (m : ℕ). digits 8 m (number 11 (channelsOf bs)) ≡ bs) n (there-and-back 11 8 channelsCount bs h (omega (arith, n)))
 
 -- channels up to 2047 are written
 pub channels-image :
-    (c : RcChannelsPacked) → length (c .0) ≡ 16 → Below 11 (c .0) → channelsImage c ≡ bytes (channelBytes (c .0))
+    (c : RcChannelsPacked) → length (c .0) ≡ channelsCount → Below 11 (c .0) → channelsImage c ≡ bytes (channelBytes (c .0))
 channels-image c n h = image-bytes c (omega (arith, not-above (c .0) h))
 
 -- READING AFTER WRITING, whatever stands behind
 pub channels-read-written :
-    (c : RcChannelsPacked) (payload after : List ℕ) → length (c .0) ≡ 16 → channelsImage c ≡ bytes payload
+    (c : RcChannelsPacked) (payload after : List ℕ) → length (c .0) ≡ channelsCount → channelsImage c ≡ bytes payload
     → channelsRead (payload ++ after) ≡ (readRow Record, c)
 unfolding channelsRead
 channels-read-written c payload after n e =
-    let long : length payload ≡ 22 = channels-length c payload e in
-    let good : 16 ≤ firstAbove (c .0) = known c payload e .0 in
+    let long : length payload ≡ channelsSize = channels-length c payload e in
+    let good : channelsCount ≤ firstAbove (c .0) = known c payload e .0 in
     let back : channelsOf payload ≡ c .0 =
     rw (← (known c payload e .1)) (channels-back (c .0) n (none-above (c .0) (omega (arith, n)))) in
-    rw (le-ltb (length (payload ++ after)) 22 (omega (arith, length-append payload after)), take-at payload after 22 long)
+    rw (le-ltb (length (payload ++ after)) channelsSize (omega (arith, length-append payload after)), take-at payload after channelsSize long)
     (ap (λ (l : List ℕ). (readRow Record, record { 0 = l })) back)
 
 -- WRITING AFTER READING: every 22-byte string is written again
 pub channels-written-read :
-    (payload : List ℕ) → length payload ≡ 22 → Bytes payload → channelsImage (channelsRead payload .1) ≡ bytes payload
+    (payload : List ℕ) → length payload ≡ channelsSize → Bytes payload → channelsImage (channelsRead payload .1) ≡ bytes payload
 unfolding channelsRead
 channels-written-read payload n byte =
-    rw (le-ltb (length payload) 22 (omega arith), take-all 22 payload (omega arith))
-    (channels-image _ (length-digits 11 16 (number 8 payload)) (digits-below 11 16 (number 8 payload)) ∙ ap bytes (bytes-back payload n byte))
+    rw (le-ltb (length payload) channelsSize (omega arith), take-all channelsSize payload (omega arith))
+    (channels-image _ (length-digits 11 channelsCount (number 8 payload)) (digits-below 11 channelsCount (number 8 payload)) ∙ ap bytes (bytes-back payload n byte))

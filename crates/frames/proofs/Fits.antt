@@ -8,10 +8,10 @@ use lib.Dec.{eqb}
 use lib.ListN.{length}
 use Rattle.base.proofs.Tests.{by-test, below}
 use Rattle.writing.specs.Writing.{Image}
-use Rattle.channels.specs.Channels.{firstAbove, channelBytes, channelsImage}
+use Rattle.channels.specs.Channels.{channelsCount, firstAbove, channelBytes, channelsImage}
 use Rattle.channels.specs.declared.RcChannelsPacked.{RcChannelsPacked}
 use Rattle.channels.proofs.Laws.{image-refused, image-bytes, channels-length}
-use Rattle.rpm.specs.Rpm.{rpmBytes, rpmImage}
+use Rattle.rpm.specs.Rpm.{rpmMost, rpmBytes, rpmImage}
 use Rattle.rpm.specs.declared.Rpm.{Rpm}
 use Rattle.rpm.proofs.RpmLaws.{rpm-image, rpm-refused, rpm-at-most}
 use Rattle.layout.specs.Layout.{recordBytes}
@@ -36,16 +36,16 @@ small-as e = subst Small (sym e)
 pub channels-small : (c : RcChannelsPacked) → Small (channelsImage c)
 channels-small c =
     ⊎-elim
-    (λ (bad : firstAbove (c .0) < 16). small-as (image-refused c bad) tt)
-    (λ (good : 16 ≤ firstAbove (c .0)). small-as (image-bytes c good) (omega (arith, channels-length c (channelBytes (c .0)) (image-bytes c good))))
-    (below (firstAbove (c .0)) 16)
+    (λ (bad : firstAbove (c .0) < channelsCount). small-as (image-refused c bad) tt)
+    (λ (good : channelsCount ≤ firstAbove (c .0)). small-as (image-bytes c good) (omega (arith, channels-length c (channelBytes (c .0)) (image-bytes c good))))
+    (below (firstAbove (c .0)) channelsCount)
 
 pub rpm-small : (r : Rpm) → Small (rpmImage r)
 rpm-small r =
     ⊎-elim
-    (λ (many : 19 < r .count). small-as (rpm-refused r many) tt)
-    (λ (few : r .count ≤ 19). small-as (rpm-image r few) (omega (arith, rpm-at-most r (rpmBytes r) (rpm-image r few))))
-    (below 19 (r .count))
+    (λ (many : rpmMost < r .count). small-as (rpm-refused r many) tt)
+    (λ (few : r .count ≤ rpmMost). small-as (rpm-image r few) (omega (arith, rpm-at-most r (rpmBytes r) (rpm-image r few))))
+    (below rpmMost (r .count))
 
 pub link-statistics-small : (x : LinkStatistics) → Small (linkStatisticsImage x)
 link-statistics-small x = omega (arith, link-statistics-long x)

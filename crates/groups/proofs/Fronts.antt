@@ -1,7 +1,7 @@
 -- What the loop over a string knows after each byte: the rest of the string, read on from there, is read as the whole.
 -- Assumes nothing.
 use mathlib.Core.Path.{_≡_, refl, sym, ap, _∙_}
-use mathlib.Core.List.{List, [], _∷_}
+use mathlib.Core.List.{List, _∷_}
 use Prim.Native.Nat.{ℕ, _+_, _-_, _≤_, _<_}
 use native.Mathlib.Numerals.{add-one}
 use native.Mathlib.Omega.{arith}
@@ -11,7 +11,7 @@ use lib.Seq.{drop-cons}
 use Rattle.groups.specs.declared.Step.{Step}
 use Rattle.groups.specs.declared.Step.the-variants.{GoesOn, Done, Malformed}
 use Rattle.groups.specs.declared.Front.the-variants as front
-use Rattle.groups.specs.Reading.{step, stepOf, Reading, unfinished, ends, malformed, run, read, frontOf}
+use Rattle.groups.specs.Reading.{step, stepOf, run, read, frontOf}
 use Rattle.groups.proofs.Reading.{run-on, run-done, run-bad, on-below}
 
 -- after i bytes: the value and the weight so far

@@ -1,14 +1,13 @@
 -- What the code's answers mean: the number at the front of a string and what stands behind it; a number that is written, and read again.
 -- Assumes nothing.
 use mathlib.Core.Path.{_≡_, refl, sym, ap, ap₂, _∙_}
-use mathlib.Core.Bool.{true}
 use mathlib.Core.List.{List, [], _∷_, _++_}
-use Prim.Native.Nat.{ℕ, suc, _+_, _-_, _≤_, _<_}
+use Prim.Native.Nat.{ℕ, suc, _+_, _-_, _≤_}
 use native.Mathlib.Nat.{zero-add}
 use native.Mathlib.Omega.{arith}
 use borrow.Author.Tests.{le-leb}
 use lib.ListN.{length, drop, length-append, length-drop}
-use Rattle.base.specs.Parts.{fitsIn, pasted}
+use Rattle.base.specs.Parts.{pasted}
 use Rattle.writing.specs.Writing.{bytes, writeOf}
 use Rattle.groups.specs.Groups.{groups}
 use Rattle.groups.specs.Writing.{putOf}

@@ -101,18 +101,22 @@ some : (b : ℕ) → (b ≡ 0 → ⊥) → 1 ≤ b
 some zero n = absurd (n refl)
 some (suc b) n = omega arith
 
+-- a first group may be 0
+first : (w b : ℕ) → ltb 1 w ≡ false → 1 < w → 1 ≤ b
+first w b e h = let low = ltb-false 1 w e in absurd (omega arith)
+
 by-tests : (g v w b : ℕ) (t₁ t₂ t₃ t₄ t₅ : Bool)
     → ltb b 128 ≡ t₁ → ltb 1 w ≡ t₂ → eqb b 0 ≡ t₃ → ltb g (v + b * w) ≡ t₄ → ltb g (128 * w) ≡ t₅
     → Case g v w b
     (if t₁ then if t₃ && t₂ then Malformed else if t₄ then Malformed else Done (v + b * w)
     else if t₅ then Malformed else GoesOn (v + (b - 128) * w) (128 * w))
 by-tests g v w b true true true t₄ t₅ e₁ e₂ e₃ e₄ e₅ = zeroLast (ltb-true _ _ e₁) (ltb-true _ _ e₂) (eqb-true _ _ e₃)
-by-tests g v w b true true false true t₅ e₁ e₂ e₃ e₄ e₅ = large (ltb-true _ _ e₁) (λ _. let n = eqb-false b 0 e₃ in some b n) (ltb-true _ _ e₄)
-by-tests g v w b true true false false t₅ e₁ e₂ e₃ e₄ e₅ = last (ltb-true _ _ e₁) (λ _. let n = eqb-false b 0 e₃ in some b n) (ltb-false _ _ e₄)
-by-tests g v w b true false true true t₅ e₁ e₂ e₃ e₄ e₅ = large (ltb-true _ _ e₁) (λ (h : 1 < w). let n = ltb-false 1 w e₂ in absurd (omega arith)) (ltb-true _ _ e₄)
-by-tests g v w b true false false true t₅ e₁ e₂ e₃ e₄ e₅ = large (ltb-true _ _ e₁) (λ (h : 1 < w). let n = ltb-false 1 w e₂ in absurd (omega arith)) (ltb-true _ _ e₄)
-by-tests g v w b true false true false t₅ e₁ e₂ e₃ e₄ e₅ = last (ltb-true _ _ e₁) (λ (h : 1 < w). let n = ltb-false 1 w e₂ in absurd (omega arith)) (ltb-false _ _ e₄)
-by-tests g v w b true false false false t₅ e₁ e₂ e₃ e₄ e₅ = last (ltb-true _ _ e₁) (λ (h : 1 < w). let n = ltb-false 1 w e₂ in absurd (omega arith)) (ltb-false _ _ e₄)
+by-tests g v w b true true false true t₅ e₁ e₂ e₃ e₄ e₅ = large (ltb-true _ _ e₁) (λ _. some b (eqb-false b 0 e₃)) (ltb-true _ _ e₄)
+by-tests g v w b true true false false t₅ e₁ e₂ e₃ e₄ e₅ = last (ltb-true _ _ e₁) (λ _. some b (eqb-false b 0 e₃)) (ltb-false _ _ e₄)
+by-tests g v w b true false true true t₅ e₁ e₂ e₃ e₄ e₅ = large (ltb-true _ _ e₁) (first w b e₂) (ltb-true _ _ e₄)
+by-tests g v w b true false false true t₅ e₁ e₂ e₃ e₄ e₅ = large (ltb-true _ _ e₁) (first w b e₂) (ltb-true _ _ e₄)
+by-tests g v w b true false true false t₅ e₁ e₂ e₃ e₄ e₅ = last (ltb-true _ _ e₁) (first w b e₂) (ltb-false _ _ e₄)
+by-tests g v w b true false false false t₅ e₁ e₂ e₃ e₄ e₅ = last (ltb-true _ _ e₁) (first w b e₂) (ltb-false _ _ e₄)
 by-tests g v w b false t₂ t₃ t₄ true e₁ e₂ e₃ e₄ e₅ = many (ltb-false _ _ e₁) (ltb-true _ _ e₅)
 by-tests g v w b false t₂ t₃ t₄ false e₁ e₂ e₃ e₄ e₅ = on (ltb-false _ _ e₁) (ltb-false _ _ e₅)
 

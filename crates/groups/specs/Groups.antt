@@ -1,4 +1,4 @@
--- A number in groups of seven bits, low group first, the top bit set when another follows, shortest form only (RULES 9).
+-- A number in groups of seven bits, low group first, the top bit set when another follows, shortest form only (RULES 9.2).
 -- Assumes nothing.
 use mathlib.Core.Path.{_≡_}
 use Prim.Native.Nat.{ℕ, zero, suc, _+_, _≤_, _/_, _%_}

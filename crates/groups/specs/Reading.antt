@@ -1,5 +1,5 @@
 -- A number read byte by byte, over the greatest that it may be. It is judged at its last byte, form first, or as soon as there are too many groups
--- (RULES 9).
+-- (RULES 9.2).
 -- Assumes nothing.
 use Prim.Native.Nat.{ℕ, _+_, _*_, _-_}
 use mathlib.Core.Bool.{_&&_}

@@ -1,26 +1,47 @@
--- The records that the entries for writing make of their numbers: a definition each, that takes them in the entry's order.
+-- Writers of whole frames for a host (RULES 14): the record that an entry makes of its numbers, what the entry answers, and the buffer afterwards.
 -- Assumes nothing.
 use Prim.Native.Nat.{ℕ}
+use mathlib.Core.List.{List}
+use lib.Dec.{eqb}
 use lib.IntN.{ℤ}
-use Rattle.records.specs.declared.link_statistics.LinkStatistics.{LinkStatistics}
+use lib.ListN.{length, getD}
+use Rattle.base.specs.Choice.{if_then_else_}
+use Rattle.packets.specs.Listed.{listed}
+use Rattle.refusals.specs.declared.Refusal.{Refusal}
+use Rattle.refusals.specs.declared.Refusal.the-variants.{InvalidPayloadLength, BadAddress}
+use Rattle.writing.specs.Writing.{Image, refused, writeOf}
+use Rattle.writing.specs.declared.Written.{Written}
+use Rattle.writing.specs.declared.Written.the-variants.{Refused}
 use Rattle.positions.specs.declared.gps.Gps.{Gps}
 use Rattle.positions.specs.declared.gps_extended.GpsExtended.{GpsExtended}
+use Rattle.records.specs.declared.link_statistics.LinkStatistics.{LinkStatistics}
 use Rattle.records.specs.declared.battery.Battery.{Battery}
 use Rattle.records.specs.declared.baro_altitude.BaroAltitude.{BaroAltitude}
+use Rattle.channels.specs.Channels.{channelsCount, channelsImage}
+use Rattle.rpm.specs.Rpm.{rpmMade, rpmImage}
+use Rattle.frames.specs.Frames.{framed}
+use Rattle.host_answer.specs.Answer.{answers}
+
+-- a frame of this address, type and payload: what is answered, and the buffer afterwards
+abbrev pub writes : ℕ → ℕ → Image → List ℕ → ℕ × List ℕ
+writes dest kind image buffer = answers (writeOf (framed dest kind image) buffer)
+
+-- ---- Records that are made of numbers: these in the entry's order
 
 abbrev pub linkStatisticsFrom : ℕ → ℕ → ℕ → ℤ → ℕ → ℕ → ℕ → ℕ → ℕ → ℤ → LinkStatistics
-linkStatisticsFrom «uplink_rssi_1» «uplink_rssi_2» «uplink_link_quality» «uplink_snr» «active_antenna» «rf_mode» «uplink_tx_power» «downlink_rssi» «downlink_link_quality» «downlink_snr» = record {
-  «uplink_rssi_1» = «uplink_rssi_1»;
-  «uplink_rssi_2» = «uplink_rssi_2»;
-  «uplink_link_quality» = «uplink_link_quality»;
-  «uplink_snr» = «uplink_snr»;
-  «active_antenna» = «active_antenna»;
-  «rf_mode» = «rf_mode»;
-  «uplink_tx_power» = «uplink_tx_power»;
-  «downlink_rssi» = «downlink_rssi»;
-  «downlink_link_quality» = «downlink_link_quality»;
-  «downlink_snr» = «downlink_snr»;
-}
+linkStatisticsFrom «uplink_rssi_1» «uplink_rssi_2» «uplink_link_quality» «uplink_snr» «active_antenna» «rf_mode»
+    «uplink_tx_power» «downlink_rssi» «downlink_link_quality» «downlink_snr» = record {
+      «uplink_rssi_1» = «uplink_rssi_1»;
+      «uplink_rssi_2» = «uplink_rssi_2»;
+      «uplink_link_quality» = «uplink_link_quality»;
+      «uplink_snr» = «uplink_snr»;
+      «active_antenna» = «active_antenna»;
+      «rf_mode» = «rf_mode»;
+      «uplink_tx_power» = «uplink_tx_power»;
+      «downlink_rssi» = «downlink_rssi»;
+      «downlink_link_quality» = «downlink_link_quality»;
+      «downlink_snr» = «downlink_snr»;
+    }
 
 abbrev pub gpsFrom : ℤ → ℤ → ℕ → ℕ → ℕ → ℕ → Gps
 gpsFrom latitude longitude groundspeed heading altitude satellites = record {
@@ -33,7 +54,8 @@ gpsFrom latitude longitude groundspeed heading altitude satellites = record {
 }
 
 abbrev pub gpsExtendedFrom : ℕ → ℤ → ℤ → ℤ → ℤ → ℤ → ℤ → ℤ → ℤ → ℕ → ℕ → ℕ → GpsExtended
-gpsExtendedFrom «fix_type» «n_speed» «e_speed» «v_speed» «h_speed_acc» «track_acc» «alt_ellipsoid» «h_acc» «v_acc» reserved «h_dop» «v_dop» = record {
+gpsExtendedFrom «fix_type» «n_speed» «e_speed» «v_speed» «h_speed_acc» «track_acc» «alt_ellipsoid» «h_acc» «v_acc»
+    reserved «h_dop» «v_dop» = record {
   «fix_type» = «fix_type»;
   «n_speed» = «n_speed»;
   «e_speed» = «e_speed»;
@@ -62,3 +84,17 @@ baroAltitudeFrom «altitude_packed» «vertical_speed_packed» = record {
   «altitude_packed» = «altitude_packed»;
   «vertical_speed_packed» = «vertical_speed_packed»;
 }
+
+-- ---- Records that are made of a slice
+
+-- sixteen channels, or a refusal
+unfoldable pub sixteenImage : List ℕ → Image
+sixteenImage cs = if eqb (length cs) channelsCount then channelsImage (record { 0 = cs }) else refused InvalidPayloadLength
+
+-- a record newly made, or a refusal
+unfoldable pub newRpmImage : ℕ → List ℤ → Image
+newRpmImage id vs = if eqb (getD (rpmMade id vs .0) 0 0) 0 then rpmImage (rpmMade id vs .1) else refused InvalidPayloadLength
+
+-- where there is no record, a bad address is refused first
+abbrev pub refusedFor : ℕ → Refusal → Written
+refusedFor dest r = if listed dest then Refused r else Refused BadAddress

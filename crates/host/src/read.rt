@@ -1,4 +1,5 @@
-// Readers of payloads: a record's numbers, in the order of its fields, at the front of a lent slice. Refusals are 4, then 5; nothing is written then.
+// Readers of payloads: a record's numbers, in the order of its fields, at the front of a lent slice. A payload that is too short is refused first,
+// then a slice that is too short; nothing is written then.
 use channels::RcChannelsPacked;
 use host_answer::answer::refuse;
 use host_records::give_baro_altitude;
@@ -37,7 +38,7 @@ pub extern "C" fn crsf_read_link_statistics(payload: &[u8], out: &mut [i32]) -> 
     let read = LinkStatistics::from_bytes(payload);
     match read {
         LinkStatisticsRead::Record(x) => give_link_statistics(x, out),
-        LinkStatisticsRead::InvalidPayloadLength => refuse(4),
+        LinkStatisticsRead::Refused(refusal) => refuse(refusal),
     }
 }
 
@@ -48,7 +49,7 @@ pub extern "C" fn crsf_read_gps(payload: &[u8], out: &mut [i32]) -> u64
     let read = Gps::from_bytes(payload);
     match read {
         GpsRead::Record(x) => give_gps(x, out),
-        GpsRead::InvalidPayloadLength => refuse(4),
+        GpsRead::Refused(refusal) => refuse(refusal),
     }
 }
 
@@ -59,7 +60,7 @@ pub extern "C" fn crsf_read_gps_extended(payload: &[u8], out: &mut [i32]) -> u64
     let read = GpsExtended::from_bytes(payload);
     match read {
         GpsExtendedRead::Record(x) => give_gps_extended(x, out),
-        GpsExtendedRead::InvalidPayloadLength => refuse(4),
+        GpsExtendedRead::Refused(refusal) => refuse(refusal),
     }
 }
 
@@ -70,7 +71,7 @@ pub extern "C" fn crsf_read_battery(payload: &[u8], out: &mut [i32]) -> u64
     let read = Battery::from_bytes(payload);
     match read {
         BatteryRead::Record(x) => give_battery(x, out),
-        BatteryRead::InvalidPayloadLength => refuse(4),
+        BatteryRead::Refused(refusal) => refuse(refusal),
     }
 }
 
@@ -81,7 +82,7 @@ pub extern "C" fn crsf_read_baro_altitude(payload: &[u8], out: &mut [i32]) -> u6
     let read = BaroAltitude::from_bytes(payload);
     match read {
         BaroAltitudeRead::Record(x) => give_baro_altitude(x, out),
-        BaroAltitudeRead::InvalidPayloadLength => refuse(4),
+        BaroAltitudeRead::Refused(refusal) => refuse(refusal),
     }
 }
 
@@ -94,7 +95,7 @@ pub extern "C" fn crsf_read_rc_channels_packed(payload: &[u8], out: &mut [u16]) 
     let channels = read.channels;
     match answer {
         ReadAnswer::Record => give_channels(channels, out),
-        ReadAnswer::InvalidPayloadLength => refuse(4),
+        ReadAnswer::Refused(refusal) => refuse(refusal),
     }
 }
 
@@ -107,6 +108,6 @@ pub extern "C" fn crsf_read_rpm(payload: &[u8], out: &mut [i32]) -> u64
     let rpm = read.rpm;
     match answer {
         ReadAnswer::Record => give_rpm(rpm, out),
-        ReadAnswer::InvalidPayloadLength => refuse(4),
+        ReadAnswer::Refused(refusal) => refuse(refusal),
     }
 }

@@ -1,24 +1,28 @@
-// Writers of whole frames: a record's numbers, each as a parameter of its own, and the frame's address. Refusals are 7, then 4 or 6, then 5; nothing is
-// written then.
+// Writers of whole frames: a record's numbers, each as a parameter of its own, and the frame's address. A bad address is refused first, then a
+// record that can't be written, then a buffer that is too short; nothing is written then.
 use channels::RcChannelsPacked;
-use host_answer::written::no_record;
-use host_answer::written::wrote;
+use host_answer::written::answer_written;
 use layout::ReadAnswer;
+use packets::is_address;
 use positions::gps::Gps;
 use positions::gps_extended::GpsExtended;
 use records::baro_altitude::BaroAltitude;
 use records::battery::Battery;
 use records::link_statistics::LinkStatistics;
+use refusals::Refusal;
 use rpm::Rpm;
+use writing::Written;
 ghost use mathlib.Core.Path.{_≡_};
 ghost use lib.ListN.{length};
-ghost use Rattle.records.specs.LinkStatistics.{linkStatisticsImage};
-ghost use Rattle.positions.specs.Gps.{gpsImage};
-ghost use Rattle.positions.specs.GpsExtended.{gpsExtendedImage};
-ghost use Rattle.records.specs.Battery.{batteryImage};
-ghost use Rattle.records.specs.BaroAltitude.{baroAltitudeImage};
+ghost use Rattle.records.specs.LinkStatistics.{linkStatisticsType, linkStatisticsImage};
+ghost use Rattle.positions.specs.Gps.{gpsType, gpsImage};
+ghost use Rattle.positions.specs.GpsExtended.{gpsExtendedType, gpsExtendedImage};
+ghost use Rattle.records.specs.Battery.{batteryType, batteryImage};
+ghost use Rattle.records.specs.BaroAltitude.{baroAltitudeType, baroAltitudeImage};
+ghost use Rattle.channels.specs.Channels.{channelsType, channelsCount};
+ghost use Rattle.rpm.specs.Rpm.{rpmType};
 ghost use Rattle.host.specs.Write.{linkStatisticsFrom, gpsFrom, gpsExtendedFrom, batteryFrom, baroAltitudeFrom};
-ghost use Rattle.host_answer.specs.Written.{answerFrame, sixteenImage, newRpmImage};
+ghost use Rattle.host.specs.Write.{writes, refusedFor, sixteenImage, newRpmImage};
 
 #[no_mangle]
 pub extern "C" fn crsf_write_link_statistics(
@@ -35,11 +39,11 @@ pub extern "C" fn crsf_write_link_statistics(
     downlink_link_quality: u8,
     downlink_snr: i8,
 ) -> u64
-    ensures { λ r. ⌜ (r, now (buffer .exit)) ≡ answerFrame dest 0x14 (linkStatisticsImage
+    ensures { λ r. ⌜ (r, now (buffer .exit)) ≡ writes dest linkStatisticsType (linkStatisticsImage
         (linkStatisticsFrom «uplink_rssi_1» «uplink_rssi_2» «uplink_link_quality» «uplink_snr» «active_antenna» «rf_mode»
         «uplink_tx_power» «downlink_rssi» «downlink_link_quality» «downlink_snr»)) (now (buffer .entry)) ⌝ }
 {
-    wrote(frames::write_link_statistics(
+    answer_written(frames::write_link_statistics(
         buffer,
         dest,
         LinkStatistics {
@@ -68,9 +72,10 @@ pub extern "C" fn crsf_write_gps(
     altitude: u16,
     satellites: u8,
 ) -> u64
-    ensures { λ r. ⌜ (r, now (buffer .exit)) ≡ answerFrame dest 0x02 (gpsImage (gpsFrom latitude longitude groundspeed heading altitude satellites)) (now (buffer .entry)) ⌝ }
+    ensures { λ r. ⌜ (r, now (buffer .exit)) ≡ writes dest gpsType (gpsImage
+        (gpsFrom latitude longitude groundspeed heading altitude satellites)) (now (buffer .entry)) ⌝ }
 {
-    wrote(frames::write_gps(
+    answer_written(frames::write_gps(
         buffer,
         dest,
         Gps {
@@ -101,9 +106,11 @@ pub extern "C" fn crsf_write_gps_extended(
     h_dop: u8,
     v_dop: u8,
 ) -> u64
-    ensures { λ r. ⌜ (r, now (buffer .exit)) ≡ answerFrame dest 0x06 (gpsExtendedImage (gpsExtendedFrom «fix_type» «n_speed» «e_speed» «v_speed» «h_speed_acc» «track_acc» «alt_ellipsoid» «h_acc» «v_acc» reserved «h_dop» «v_dop»)) (now (buffer .entry)) ⌝ }
+    ensures { λ r. ⌜ (r, now (buffer .exit)) ≡ writes dest gpsExtendedType (gpsExtendedImage
+        (gpsExtendedFrom «fix_type» «n_speed» «e_speed» «v_speed» «h_speed_acc» «track_acc» «alt_ellipsoid» «h_acc» «v_acc»
+        reserved «h_dop» «v_dop»)) (now (buffer .entry)) ⌝ }
 {
-    wrote(frames::write_gps_extended(
+    answer_written(frames::write_gps_extended(
         buffer,
         dest,
         GpsExtended {
@@ -133,9 +140,10 @@ pub extern "C" fn crsf_write_battery(
     remaining: u8,
     id: u8,
 ) -> u64
-    ensures { λ r. ⌜ (r, now (buffer .exit)) ≡ answerFrame dest 0x08 (batteryImage (batteryFrom voltage current «capacity_used» remaining id)) (now (buffer .entry)) ⌝ }
+    ensures { λ r. ⌜ (r, now (buffer .exit)) ≡ writes dest batteryType (batteryImage
+        (batteryFrom voltage current «capacity_used» remaining id)) (now (buffer .entry)) ⌝ }
 {
-    wrote(frames::write_battery(
+    answer_written(frames::write_battery(
         buffer,
         dest,
         Battery {
@@ -155,9 +163,10 @@ pub extern "C" fn crsf_write_baro_altitude(
     altitude_packed: u16,
     vertical_speed_packed: i8,
 ) -> u64
-    ensures { λ r. ⌜ (r, now (buffer .exit)) ≡ answerFrame dest 0x09 (baroAltitudeImage (baroAltitudeFrom «altitude_packed» «vertical_speed_packed»)) (now (buffer .entry)) ⌝ }
+    ensures { λ r. ⌜ (r, now (buffer .exit)) ≡ writes dest baroAltitudeType (baroAltitudeImage
+        (baroAltitudeFrom «altitude_packed» «vertical_speed_packed»)) (now (buffer .entry)) ⌝ }
 {
-    wrote(frames::write_baro_altitude(
+    answer_written(frames::write_baro_altitude(
         buffer,
         dest,
         BaroAltitude {
@@ -167,33 +176,45 @@ pub extern "C" fn crsf_write_baro_altitude(
     ))
 }
 
+const CHANNELS: usize = 16;
+
 fn sixteen(channels: &[u16]) -> RcChannelsPacked
-    requires { ⌜ length (now channels) ≡ 16 ⌝ }
+    requires { ⌜ length (now channels) ≡ channelsCount ⌝ }
     ensures { λ r. ⌜ r ≡ record { 0 = now (channels .entry) } ⌝ }
 {
-    let mut all = [0u16; 16];
-    for i in 0..16 {
+    let mut all = [0u16; CHANNELS];
+    for i in 0..CHANNELS {
         all[i] = channels[i];
     }
     RcChannelsPacked(all)
 }
 
-// Refusal 4 where there are not sixteen.
+// The answer where there is no record to write: the address is tested first all the same.
+fn no_record(dest: u8, refusal: Refusal) -> Written
+    ensures { λ r. ⌜ r ≡ refusedFor dest refusal ⌝ }
+{
+    if !is_address(dest) {
+        return Written::Refused(Refusal::BadAddress);
+    }
+    Written::Refused(refusal)
+}
+
+// Any other count of channels is refused.
 #[no_mangle]
 pub extern "C" fn crsf_write_rc_channels_packed(
     buffer: &mut [u8],
     dest: u8,
     channels: &[u16],
 ) -> u64
-    ensures { λ r. ⌜ (r, now (buffer .exit)) ≡ answerFrame dest 0x16 (sixteenImage (now (channels .entry))) (now (buffer .entry)) ⌝ }
+    ensures { λ r. ⌜ (r, now (buffer .exit)) ≡ writes dest channelsType (sixteenImage (now (channels .entry))) (now (buffer .entry)) ⌝ }
 {
-    if channels.len() != 16 {
-        return wrote(no_record(dest));
+    if channels.len() != CHANNELS {
+        return answer_written(no_record(dest, Refusal::InvalidPayloadLength));
     }
-    wrote(frames::write_rc_channels_packed(buffer, dest, sixteen(channels)))
+    answer_written(frames::write_rc_channels_packed(buffer, dest, sixteen(channels)))
 }
 
-// Refusal 4 for no value and for more than 19.
+// No value, and more than 19, are refused.
 #[no_mangle]
 pub extern "C" fn crsf_write_rpm(
     buffer: &mut [u8],
@@ -201,13 +222,14 @@ pub extern "C" fn crsf_write_rpm(
     rpm_source_id: u8,
     rpm_values: &[i32],
 ) -> u64
-    ensures { λ r. ⌜ (r, now (buffer .exit)) ≡ answerFrame dest 0x0C (newRpmImage «rpm_source_id» (now («rpm_values» .entry))) (now (buffer .entry)) ⌝ }
+    ensures { λ r. ⌜ (r, now (buffer .exit)) ≡ writes dest rpmType
+        (newRpmImage «rpm_source_id» (now («rpm_values» .entry))) (now (buffer .entry)) ⌝ }
 {
     let made = Rpm::new(rpm_source_id, rpm_values);
     let answer = made.answer;
     let rpm = made.rpm;
     match answer {
-        ReadAnswer::Record => wrote(frames::write_rpm(buffer, dest, rpm)),
-        ReadAnswer::InvalidPayloadLength => wrote(no_record(dest)),
+        ReadAnswer::Record => answer_written(frames::write_rpm(buffer, dest, rpm)),
+        ReadAnswer::Refused(refusal) => answer_written(no_record(dest, refusal)),
     }
 }

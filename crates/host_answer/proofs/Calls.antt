@@ -22,7 +22,7 @@ use Rattle.host_answer.proofs.Packing.{Whole, unpack}
 use Rattle.host_answer.proofs.Fits.{Fits, call-fits}
 use Rattle.host_answer.proofs.Numbers.{refusal-whole}
 
-reply-whole : (t : ℕ) (a : Reply) → Fits (answerReply t a) → Whole (answerReply t a)
+pub reply-whole : (t : ℕ) (a : Reply) → Fits (answerReply t a) → Whole (answerReply t a)
 unfolding answerReply
 reply-whole t More f = record { number = lit< tt; taken = f .0; in-state = lit< tt; at = f .1; len = f .2; first = lit< tt; second = lit< tt }
 reply-whole t (Frame (InPiece n)) f = record { number = lit< tt; taken = f .0; in-state = lit< tt; at = f .1; len = f .2; first = lit< tt; second = lit< tt }

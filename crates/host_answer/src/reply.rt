@@ -24,7 +24,12 @@ pub fn answer_call(replied: Replied) -> u64
         Reply::More => pack(said(MORE, taken, 0, 0)),
         Reply::Frame(place) => match place {
             Place::InPiece(len) => pack(placed(taken, 0, 0, narrow(len))),
-            Place::InHeld { at, len } => pack(placed(taken, 1, narrow(at % 256 + PLACES), narrow(len))),
+            Place::InHeld { at, len } => pack(placed(
+                taken,
+                1,
+                narrow(at % 256 + PLACES),
+                narrow(len),
+            )),
         },
         Reply::Refused(refusal) => pack(carried(refusal, taken)),
     }

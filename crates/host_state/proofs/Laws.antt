@@ -1,13 +1,13 @@
--- What the definitions are for: what is not a valid state is refused and stays; a reset state holds nothing; the count is that of the held bytes; a save
--- depends on the held bytes alone; what was saved and is restored is held; and calls over a state are a run of the stream (RULES 7, 9, 14).
+-- What the definitions are for: what is not a valid state is refused and stays; a reset state holds nothing; the count is that of the held bytes; a
+-- save depends on the held bytes alone; what was saved and is restored is held; and calls over a state are a run of the stream (RULES 7, 9, 14).
 -- Assumes nothing.
 use mathlib.Core.Path.{_≡_, refl, sym, ap, ap₂, _∙_}
-use mathlib.Core.Bool.{Bool, true, false, _&&_}
-use mathlib.Core.List.{List, [], _∷_, _++_}
-use Prim.Native.Nat.{ℕ, _+_, _-_, _≤_, _<_}
+use mathlib.Core.Bool.{true, false}
+use mathlib.Core.List.{List, [], _++_}
+use Prim.Native.Nat.{ℕ, _+_, _-_, _<_}
 use native.Mathlib.Omega.{arith}
-use borrow.Author.Tests.{ltb-true, ltb-false, lt-ltb, le-ltb, le-leb}
-use lib.Dec.{leb, ltb}
+use borrow.Author.Tests.{lt-ltb, le-leb}
+use lib.Dec.{ltb}
 use lib.ListN.{length, take, drop}
 use Rattle.base.specs.Choice.{if_then_else_}
 use Rattle.base.specs.Parts.{pasted}
@@ -18,8 +18,7 @@ use Rattle.refusals.proofs.Rows.{not-zero}
 use Rattle.writing.specs.Writing.{Image, bytes, refused, wroteRow, writeOf}
 use Rattle.reading.specs.Reading.{limit}
 use Rattle.reading.proofs.Frame.{two-heads}
-use Rattle.stream.specs.Places.{heldIn}
-use Rattle.stream.specs.Step.{isSpan, Steps}
+use Rattle.stream.specs.Step.{isSpan}
 use Rattle.stream.specs.Rows.{rowsOf}
 use Rattle.stream.specs.Run.{Run, begin, step}
 use Rattle.stream.specs.declared.step.Moved.{Moved}
@@ -32,8 +31,8 @@ use Rattle.saved.specs.Save.{saveImage, heldRow}
 use Rattle.saved.proofs.Forms.{accepted}
 use Rattle.saved.proofs.Laws as saved
 use Rattle.saved.proofs.Laws.{form-accepted, held-again, restored-holds}
-use Rattle.host_state.specs.State.{size, stateOf, startIn, endIn, placesIn, heldBy, hasSize, isState}
-use Rattle.host_state.specs.Step.{movedIn, StateSteps}
+use Rattle.host_state.specs.State.{stateOf, startIn, endIn, placesIn, heldBy, hasSize, isState}
+use Rattle.host_state.specs.Step.{StateSteps}
 use Rattle.host_state.specs.Saving.{heldRowOf, resetState, stateImage, restoreState}
 use Rattle.host_state.proofs.States.{sized, has-size, state-size, state-span, is-state, state-bounds, places-count}
 

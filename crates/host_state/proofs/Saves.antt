@@ -13,7 +13,6 @@ use Rattle.refusals.specs.Row.{rowOf}
 use Rattle.refusals.specs.declared.Refusal.{Refusal}
 use Rattle.refusals.specs.declared.Refusal.the-variants.{BadState}
 use Rattle.refusals.proofs.Rows.{not-zero}
-use Rattle.writing.specs.declared.Written.{Written}
 use Rattle.writing.specs.declared.Written.the-variants as written
 use Rattle.writing.specs.Writing.{writtenRow, writeOf}
 use Rattle.writing.proofs.Writing.{refuses}

@@ -1,14 +1,14 @@
 -- What the tests of a state say, and the state after its start, its end and its places were written.
 -- Assumes nothing.
-use mathlib.Core.Path.{_≡_, refl, sym, ap, ap₂, _∙_, subst}
+use mathlib.Core.Path.{_≡_, refl, sym, ap, _∙_}
 use mathlib.Core.Bool.{Bool, true, false, not, and-eq-true-iff}
 use mathlib.Core.List.{List, [], _∷_, _++_, append-nil}
-use Prim.Native.Nat.{ℕ, _-_, _≤_, _<_}
+use Prim.Native.Nat.{ℕ, _-_, _≤_}
 use native.Mathlib.Omega.{arith}
 use borrow.Author.Tests.{eqb-true, eq-eqb, not-true, not-false}
 use lib.ListN.{length, take, drop, set, length-append, length-drop, drop-of-length-le}
 use lib.Seq.{drop-at, length-take-le, take-all}
-use Rattle.base.proofs.Tests.{by-test, told-not}
+use Rattle.base.proofs.Tests.{not-as}
 use Rattle.reading.specs.Reading.{limit}
 use Rattle.reading.proofs.Frame.{two-heads}
 use Rattle.stream.specs.Step.{isSpan}
@@ -28,10 +28,10 @@ module _ (s : List ℕ) where
 
   -- as the code asks: `!has_size(state)`
   pub right-size : {answer : Bool} → answer ≡ hasSize s → not answer ≡ false → length s ≡ size
-  right-size e t = sized (not-false (hasSize s) (told-not e t))
+  right-size e t = sized (not-false (hasSize s) (not-as e t))
 
   pub wrong-size : {answer : Bool} → answer ≡ hasSize s → not answer ≡ true → hasSize s ≡ false
-  wrong-size e t = not-true (hasSize s) (told-not e t)
+  wrong-size e t = not-true (hasSize s) (not-as e t)
 
   pub state-size : isState s ≡ true → length s ≡ size
   unfolding isState

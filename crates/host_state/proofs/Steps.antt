@@ -12,7 +12,7 @@ use Rattle.refusals.specs.declared.Refusal.the-variants.{BadState}
 use Rattle.stream.specs.declared.step.Reply.the-variants.{Refused}
 use Rattle.stream.specs.Step.{isSpan, Steps}
 use Rattle.stream.specs.declared.step.Moved.{Moved}
-use Rattle.host_state.specs.State.{size, stateOf, startIn, endIn, placesIn, hasSize}
+use Rattle.host_state.specs.State.{size, startIn, endIn, hasSize}
 use Rattle.host_state.specs.Step.{StateSteps}
 use Rattle.host_state.proofs.States.{has-size, places-count, places-lent, written, stores-written}
 

@@ -1,8 +1,8 @@
--- Each public function's promise leaves one answer, and one content of each buffer lent to be written. Of a call it leaves one of all that is seen, and
--- on refusal all of the state.
+-- Each public function's promise leaves one answer, and one content of each buffer lent to be written. Of a call it leaves one of all that is seen,
+-- and on refusal all of the state.
 -- Assumes nothing.
 use mathlib.Core.Path.{_≡_, sym, ap, ap₂, _∙_}
-use mathlib.Core.Bool.{Bool, true, false}
+use mathlib.Core.Bool.{Bool}
 use mathlib.Core.List.{List}
 use Prim.Native.Nat.{ℕ}
 use native.Mathlib.Omega.{arith}

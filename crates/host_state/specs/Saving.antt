@@ -1,5 +1,5 @@
--- What the count of held bytes, a reset, a save and a restore answer and leave (RULES 9, 14). Reset and restore overwrite the state, so of it they test
--- only its length.
+-- What the count of held bytes, a reset, a save and a restore answer and leave (RULES 14.2, 14.3, 14.7). Reset and restore overwrite the state, so
+-- of it they test only its length.
 -- Assumes nothing.
 use Prim.Native.Nat.{ℕ, _-_}
 use mathlib.Core.Bool.{_&&_}

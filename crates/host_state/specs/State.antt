@@ -1,4 +1,5 @@
--- The host's state as bytes (RULES 14): start, end, then as many places as the limit. Here alone is said where these stand, and how many bytes that is.
+-- The host's state as bytes (RULES 14.1): start, end, then as many places as the limit. Only here it is said where these stand, and how many bytes
+-- that is.
 -- Assumes nothing.
 use Prim.Native.Nat.{ℕ, _+_}
 use mathlib.Core.Bool.{Bool, _&&_}

@@ -18,7 +18,7 @@ use Rattle.refusals.specs.declared.Refusal.the-variants.{BadState}
 use Rattle.stream.specs.Places.{heldIn}
 use Rattle.stream.specs.Step.{isSpan, asksForMore, Moves, Steps}
 use Rattle.stream.proofs.Spans.{span-bounds}
-use Rattle.stream.proofs.Drain.{taken-is, held-is}
+use Rattle.stream.proofs.Replies.{taken-is, held-is}
 use Rattle.stream.proofs.Loop as loop
 use Rattle.stream.proofs.Loop.{Going}
 use Rattle.lines.specs.Lines.{line, linesOf, longest}

@@ -23,7 +23,7 @@ use Rattle.stream.specs.declared.step.Reply.the-variants.{More, Frame, Refused}
 use Rattle.stream.specs.declared.step.Moved.{Moved}
 use Rattle.stream.specs.Places.{heldIn}
 use Rattle.stream.specs.Step.{Said, more, frame, refused, saidOf, meaningOf, Moves}
-use Rattle.stream.proofs.Drain.{said-is}
+use Rattle.stream.proofs.Replies.{said-is}
 use Rattle.lines.specs.Lines.{frameLine, frameLineAt, line, refusalLine, linesOf}
 use Rattle.lines.specs.Put.{lineBy}
 use Rattle.lines.proofs.Rows.{lineOf, line-of-row}

@@ -10,7 +10,7 @@ use Rattle.reading.specs.Answer.{Frame}
 use Rattle.reading.specs.Reading.{First, says, limit}
 use Rattle.reading.specs.Call.{call}
 use Rattle.stream.specs.Step.{frame, saidOf}
-use Rattle.stream.proofs.Drain.{said-is}
+use Rattle.stream.proofs.Replies.{said-is}
 use Rattle.parser.specs.declared.CrsfParser.{CrsfParser}
 use Rattle.parser.specs.declared.Stepped.{Stepped}
 use Rattle.parser.specs.Parser.{heldBy, isState, Nexts}

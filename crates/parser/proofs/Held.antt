@@ -14,7 +14,7 @@ use Rattle.stream.specs.declared.step.Replied.{Replied}
 use Rattle.stream.proofs.Spans.{span-bounds}
 use Rattle.stream.proofs.Held.{length-held}
 use Rattle.stream.proofs.Bounds.{taken-bound, still-span}
-use Rattle.stream.proofs.Drain.{asks, held-is}
+use Rattle.stream.proofs.Replies.{asks, held-is}
 use Rattle.parser.specs.declared.CrsfParser.{CrsfParser}
 use Rattle.parser.specs.declared.Stepped.{Stepped}
 use Rattle.parser.specs.Parser.{empty, resetOf, heldBy, heldCount, isState, stepped, movedTo, Nexts}

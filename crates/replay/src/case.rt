@@ -1,6 +1,8 @@
 // A case of the sample: its kind, the eight bytes that an entry for a host is to answer, and three parts.
 use base::byte_at;
 use base::wide;
+use refusals::Refusal;
+use refusals::row_of;
 ghost use Prim.Native.Nat.{_<_};
 
 // Where a part stands.
@@ -9,7 +11,7 @@ pub struct Part {
     pub len: usize,
 }
 
-// What an answer is to be: document 01's number, or 0 for a frame or a record, or 255 where more is asked for.
+// What an answer is to be: a refusal's number, or 0 for a frame or a record, or 255 where more is asked for.
 pub struct Expected {
     pub number: u8,
     pub taken: u8,
@@ -43,6 +45,12 @@ fn expected_at(page: &[u8], at: usize) -> Expected
     }
 }
 
+// Whether a refusal has this number.
+pub fn has_number(refusal: Refusal, number: u8) -> bool {
+    let row = row_of(refusal);
+    row.number == number
+}
+
 pub fn case_at(page: &[u8], at: usize) -> Case
     requires { ⌜ at < 4096 ⌝ }
     ensures { λ r. ⌜ at < r .next ⌝ }
@@ -68,7 +76,7 @@ pub fn case_at(page: &[u8], at: usize) -> Case
     }
 }
 
-// So many bytes from a place on, or those of them that are there.
+// That many bytes from a place on, or those of them that are there.
 pub fn bytes_from(s: &[u8], at: usize, count: usize) -> &[u8] {
     if s.len() < at {
         return &s[..0];

@@ -99,7 +99,7 @@ fn line(word: &[u8], agree: u64, differ: u64) {
 }
 
 fn main() {
-    let mut state = [0u8; 66];
+    let mut state = [0u8; host_state::SIZE];
     let mut counts = [0u64; 8];
     replay_all(&mut state, &mut counts);
     line(b"framing ", counts[0], counts[1]);

@@ -1,6 +1,7 @@
 // Records read from payloads: the refusal, or every field. A field of a case has 4 bytes, highest first, and a narrow one is the last of them.
 use crate::case::Case;
 use crate::case::bytes_of;
+use crate::case::has_number;
 use base::byte_at;
 use channels::RcChannelsPacked;
 use layout::ReadAnswer;
@@ -36,7 +37,7 @@ fn is_link_statistics(r: LinkStatistics, f: &[u8]) -> bool {
 
 fn link_statistics(payload: &[u8], number: u8, f: &[u8]) -> bool {
     match LinkStatistics::from_bytes(payload) {
-        LinkStatisticsRead::InvalidPayloadLength => number == 4,
+        LinkStatisticsRead::Refused(refusal) => has_number(refusal, number),
         LinkStatisticsRead::Record(r) => number == 0 && is_link_statistics(r, f),
     }
 }
@@ -52,7 +53,7 @@ fn is_gps(r: Gps, f: &[u8]) -> bool {
 
 fn gps(payload: &[u8], number: u8, f: &[u8]) -> bool {
     match Gps::from_bytes(payload) {
-        GpsRead::InvalidPayloadLength => number == 4,
+        GpsRead::Refused(refusal) => has_number(refusal, number),
         GpsRead::Record(r) => number == 0 && is_gps(r, f),
     }
 }
@@ -74,7 +75,7 @@ fn is_gps_extended(r: GpsExtended, f: &[u8]) -> bool {
 
 fn gps_extended(payload: &[u8], number: u8, f: &[u8]) -> bool {
     match GpsExtended::from_bytes(payload) {
-        GpsExtendedRead::InvalidPayloadLength => number == 4,
+        GpsExtendedRead::Refused(refusal) => has_number(refusal, number),
         GpsExtendedRead::Record(r) => number == 0 && is_gps_extended(r, f),
     }
 }
@@ -89,7 +90,7 @@ fn is_battery(r: Battery, f: &[u8]) -> bool {
 
 fn battery(payload: &[u8], number: u8, f: &[u8]) -> bool {
     match Battery::from_bytes(payload) {
-        BatteryRead::InvalidPayloadLength => number == 4,
+        BatteryRead::Refused(refusal) => has_number(refusal, number),
         BatteryRead::Record(r) => number == 0 && is_battery(r, f),
     }
 }
@@ -100,7 +101,7 @@ fn is_baro_altitude(r: BaroAltitude, f: &[u8]) -> bool {
 
 fn baro_altitude(payload: &[u8], number: u8, f: &[u8]) -> bool {
     match BaroAltitude::from_bytes(payload) {
-        BaroAltitudeRead::InvalidPayloadLength => number == 4,
+        BaroAltitudeRead::Refused(refusal) => has_number(refusal, number),
         BaroAltitudeRead::Record(r) => number == 0 && is_baro_altitude(r, f),
     }
 }
@@ -124,7 +125,7 @@ fn channels(payload: &[u8], number: u8, f: &[u8]) -> bool {
     let packed = read.channels;
     let sixteen = packed.0;
     match answer {
-        ReadAnswer::InvalidPayloadLength => number == 4,
+        ReadAnswer::Refused(refusal) => has_number(refusal, number),
         ReadAnswer::Record => number == 0 && are_channels(&sixteen, f),
     }
 }
@@ -149,7 +150,7 @@ fn rpm(payload: &[u8], number: u8, id: u8, f: &[u8]) -> bool {
     let record = read.rpm;
     let values = record.rpm_values;
     match answer {
-        ReadAnswer::InvalidPayloadLength => number == 4,
+        ReadAnswer::Refused(refusal) => has_number(refusal, number),
         ReadAnswer::Record => {
             number == 0
                 && record.rpm_source_id == id

@@ -3,11 +3,11 @@
 use crate::case::Case;
 use crate::case::Expected;
 use crate::case::bytes_of;
+use crate::case::has_number;
 use base::byte_at;
 use base::wide;
 use channels::RcChannelsPacked;
 use layout::ReadAnswer;
-use layout::Written;
 use numbers::get_i8;
 use numbers::get_i16;
 use numbers::get_i32;
@@ -18,7 +18,9 @@ use positions::gps_extended::GpsExtended;
 use records::baro_altitude::BaroAltitude;
 use records::battery::Battery;
 use records::link_statistics::LinkStatistics;
+use refusals::Refusal;
 use rpm::Rpm;
+use writing::Written;
 
 fn link_statistics(buffer: &mut [u8], dest: u8, f: &[u8]) -> Written {
     let r = LinkStatistics {
@@ -138,17 +140,17 @@ fn rpm(buffer: &mut [u8], dest: u8, f: &[u8]) -> Written {
         get_i32(f, 76),
     ];
     if !packets::is_address(dest) {
-        return Written::BadAddress;
+        return Written::Refused(Refusal::BadAddress);
     }
     let fields = f.len() / 4;
     if fields < 1 {
-        return Written::InvalidPayloadLength;
+        return Written::Refused(Refusal::InvalidPayloadLength);
     }
     let made = Rpm::new(byte_at(f, 3), first(&values, fields - 1));
     let answer = made.answer;
     let r = made.rpm;
     match answer {
-        ReadAnswer::InvalidPayloadLength => Written::InvalidPayloadLength,
+        ReadAnswer::Refused(refusal) => Written::Refused(refusal),
         ReadAnswer::Record => frames::write_rpm(buffer, dest, r),
     }
 }
@@ -168,10 +170,7 @@ fn write(kind: u8, buffer: &mut [u8], dest: u8, f: &[u8]) -> Written {
 fn is_expected(e: Expected, written: Written) -> bool {
     match written {
         Written::Wrote(n) => e.number == 0 && wide(e.len) == n,
-        Written::InvalidPayloadLength => e.number == 4,
-        Written::BufferOverflow => e.number == 5,
-        Written::ChannelRange(_) => e.number == 6,
-        Written::BadAddress => e.number == 7,
+        Written::Refused(refusal) => has_number(refusal, e.number),
     }
 }
 

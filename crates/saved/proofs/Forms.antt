@@ -2,18 +2,18 @@
 -- Assumes nothing.
 use mathlib.Core.Path.{_≡_, refl, sym, ap, _∙_}
 use mathlib.Core.Bool.{true, false, and-eq-true-iff, _&&_}
-use mathlib.Core.List.{List, [], _∷_, _++_}
+use mathlib.Core.List.{List, _++_}
 use Prim.Native.Nat.{ℕ, _+_, _-_, _≤_, _<_}
 use native.Mathlib.Omega.{arith}
 use borrow.Author.Tests.{ltb-true, leb-true, leb-false, eqb-true, le-leb, lt-leb, lt-ltb, eq-eqb, ne-eqb}
-use lib.Dec.{leb, ltb, eqb}
+use lib.Dec.{leb, ltb}
 use lib.ListN.{length, drop, length-append, length-drop}
 use Rattle.base.specs.Parts.{fitsIn, pasted, copied}
 use Rattle.base.proofs.Parts.{paste-all, copied-fits}
 use Rattle.base.proofs.Tests.{by-test}
 use Rattle.refusals.specs.declared.Refusal.the-variants.{BufferOverflow, BadState}
 use Rattle.writing.specs.declared.Written.the-variants as written
-use Rattle.writing.specs.Writing.{bytes, refused, writtenRow, writeOf}
+use Rattle.writing.specs.Writing.{bytes, writtenRow, writeOf}
 use Rattle.writing.proofs.Writing.{writes, overflows, refuses}
 use Rattle.groups.specs.Groups.{groups}
 use Rattle.groups.specs.Writing.{putOf}

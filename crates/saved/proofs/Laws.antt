@@ -1,13 +1,13 @@
--- What the saved form is for (RULES 9): saving then restoring gives the same held bytes; equal held bytes mean equal forms; a form is accepted exactly
--- if it is the saved form of some bytes, fewer than the limit; and no history ends at a save and a restore (RULES 7).
+-- What the saved form is for (RULES 9.6, 9.7): saving then restoring gives the same held bytes; equal held bytes mean equal forms; a form is accepted
+-- exactly if it is the saved form of some bytes, fewer than the limit; and a history goes on across a save and a restore (RULES 7.3).
 -- Assumes nothing.
 use mathlib.Core.Path.{_≡_, refl, sym, ap, ap₂, _∙_, subst}
 use mathlib.Core.Bool.{true, false, _&&_}
-use mathlib.Core.List.{List, [], _∷_, _++_}
+use mathlib.Core.List.{List, _∷_, _++_}
 use Prim.Native.Nat.{ℕ, _+_, _*_, _-_, _≤_, _<_}
 use native.Mathlib.Nat.{sub-zero}
 use native.Mathlib.Omega.{arith}
-use borrow.Author.Tests.{leb-true, lt-ltb, le-ltb, le-leb, eq-eqb}
+use borrow.Author.Tests.{lt-ltb, le-ltb, le-leb, eq-eqb}
 use lib.Dec.{leb, ltb, eqb}
 use lib.ListN.{length, getD, take, drop}
 use lib.Seq.{take-at}
@@ -19,10 +19,9 @@ use Rattle.refusals.specs.Row.{rowOf}
 use Rattle.refusals.specs.declared.Refusal.{Refusal}
 use Rattle.refusals.specs.declared.Refusal.the-variants.{BufferOverflow, BadState}
 use Rattle.refusals.proofs.Rows.{not-zero}
-use Rattle.writing.specs.declared.Written.the-variants.{Wrote}
-use Rattle.writing.specs.Writing.{bytes, wroteRow, writtenRow, writeOf}
+use Rattle.writing.specs.Writing.{wroteRow, writeOf}
 use Rattle.groups.specs.declared.Step.{Step}
-use Rattle.groups.specs.Reading.{step, Reading, ends, malformed, read}
+use Rattle.groups.specs.Reading.{step, ends, read}
 use Rattle.groups.proofs.Reading.{Case, on, many, zeroLast, large, last, cases, run-done, run-bad, written-reads, read-written}
 use Rattle.reading.specs.Answer.{Answer}
 use Rattle.reading.specs.Reading.{reading, _⊕_}
@@ -31,9 +30,8 @@ use Rattle.reading.proofs.History.{resumed}
 use Rattle.stream.specs.Places.{heldIn}
 use Rattle.stream.proofs.Held.{length-held}
 use Rattle.saved.specs.Form.{savedForm, isSavable, isCounted, isForm, behindCount, heldOf}
-use Rattle.saved.specs.declared.form.Restored.the-variants.{Held}
-use Rattle.saved.specs.Save.{saveImage, heldRow, restoredRow, restoreOf}
-use Rattle.saved.proofs.Forms.{Savable, savable, Accepted, accepted}
+use Rattle.saved.specs.Save.{saveImage, heldRow, restoreOf}
+use Rattle.saved.proofs.Forms.{Savable, savable, accepted}
 
 -- ---- forms
 
@@ -99,7 +97,8 @@ pub record FormWritten (places : List ℕ) (start end n : ℕ) (after : List ℕ
   pub few : length (heldIn places start end) < length places
   pub form : take n after ≡ savedForm (heldIn places start end)
 
-module _ (places : List ℕ) (start end : ℕ) (out : List ℕ) {n : ℕ} {after : List ℕ} (saves : (wroteRow n, after) ≡ writeOf (saveImage places start end) out) where
+module _ (places : List ℕ) (start end : ℕ) (out : List ℕ) {n : ℕ} {after : List ℕ}
+    (saves : (wroteRow n, after) ≡ writeOf (saveImage places start end) out) where
   abbrev held : List ℕ
   held = heldIn places start end
 

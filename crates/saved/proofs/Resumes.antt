@@ -14,7 +14,6 @@ use Rattle.refusals.proofs.Rows.{not-zero}
 use Rattle.reading.specs.Reading.{limit}
 use Rattle.parser.specs.declared.CrsfParser.{CrsfParser}
 use Rattle.saved.specs.Form.{isForm, heldOf}
-use Rattle.saved.specs.declared.form.Restored.{Restored}
 use Rattle.saved.specs.declared.form.Restored.the-variants.{Held, Refused}
 use Rattle.saved.specs.Save.{heldRow, restoredRow, restoreOf}
 use Rattle.saved.specs.Parser.{resumeOf}

@@ -1,4 +1,4 @@
--- The saved form of the held bytes (RULES 9): their count in groups of seven bits, then those bytes, over the limit m of a frame.
+-- The saved form of the held bytes (RULES 9.1, 9.3): their count in groups of seven bits, then those bytes, over the limit m of a frame.
 -- Assumes nothing.
 use Prim.Native.Nat.{ℕ, _-_}
 use mathlib.Core.Bool.{Bool, false, _&&_}

@@ -1,4 +1,4 @@
--- What a save and a restore answer and leave, over lent places (RULES 9). A save tests 8, then 5.
+-- What a save and a restore answer and leave, over lent places (RULES 9.4, 9.5). A save tests 8, then 5.
 -- Assumes nothing.
 use Prim.Native.Nat.{ℕ, _-_}
 use mathlib.Core.List.{List, [], _∷_}

@@ -26,7 +26,7 @@ use Rattle.stream.specs.declared.step.Moved.{Moved}
 use Rattle.stream.proofs.Held.{length-held}
 use Rattle.stream.proofs.Spans.{span-bounds}
 use Rattle.stream.proofs.Bounds.{still-span}
-use Rattle.stream.proofs.Drain.{said-is, taken-is, held-is}
+use Rattle.stream.proofs.Replies.{said-is, taken-is, held-is}
 use Rattle.stream.proofs.Histories.{goes-on}
 
 -- ---- A call asks for more where the reading stops, and nowhere else

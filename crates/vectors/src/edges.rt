@@ -3,18 +3,19 @@ use crate::show::shown;
 use crate::show::spelled;
 use altitude::Decimetres;
 use channels::RcChannelsPacked;
-use layout::Written;
 use libc::STDOUT_FILENO;
 use lines::line::list_held;
 use listing::list_in;
 use records::battery::Battery;
 use rpm::Rpm;
+use stream::LIMIT;
+use writing::Written;
 
 // The listing of a whole stream.
-fn stream(input: &[u8]) {
+fn gives(input: &[u8]) {
     spelled(input);
     io::write_all(STDOUT_FILENO, b"gives\n");
-    let mut places = [0u8; 64];
+    let mut places = [0u8; LIMIT];
     let mut out = [0u8; 256];
     let listed = list_in(&mut places, 0, 0, input, &mut out);
     let n = listed.written;
@@ -24,7 +25,7 @@ fn stream(input: &[u8]) {
     let start = listed.start;
     let end = listed.end;
     if start <= end {
-        if end - start < 64 {
+        if end - start < LIMIT {
             let m = list_held(&mut out, (end - start) as u8);
             if m <= out.len() {
                 io::write_all(STDOUT_FILENO, &out[0..m]);
@@ -36,10 +37,7 @@ fn stream(input: &[u8]) {
 fn payload(written: Written, buffer: &[u8]) {
     match written {
         Written::Wrote(n) => shown(buffer, n),
-        Written::InvalidPayloadLength => shown(buffer, 0),
-        Written::BufferOverflow => shown(buffer, 0),
-        Written::ChannelRange(_) => shown(buffer, 0),
-        Written::BadAddress => shown(buffer, 0),
+        Written::Refused(_) => shown(buffer, 0),
     }
 }
 
@@ -95,13 +93,13 @@ fn rpm(value: i32) {
 }
 
 pub fn cases() {
-    stream(&[0xC8, 0x02, 0x00, 0x00]);
-    stream(&[0xC8, 0x02, 0x00, 0x01]);
-    stream(&[0xC8, 0x01]);
-    stream(&[0x00, 0x00]);
-    stream(&[0xC8, 0x3F]);
-    stream(&[0xC8, 0x3E]);
-    stream(&[0xC8]);
+    gives(&[0xC8, 0x02, 0x00, 0x00]);
+    gives(&[0xC8, 0x02, 0x00, 0x01]);
+    gives(&[0xC8, 0x01]);
+    gives(&[0x00, 0x00]);
+    gives(&[0xC8, 0x3F]);
+    gives(&[0xC8, 0x3E]);
+    gives(&[0xC8]);
     only_channel(0);
     only_channel(15);
     packed(22767);

@@ -36,7 +36,8 @@ loop-again : tie.Need-loop-again Inv-loop μ-loop
 loop-again c =
     let next = c .before .before .before in
     let loop = next .before .before .before .loop in
-    front-on (loop .inv) (omega arith) (next .next .ensures) (omega (arith, next .before .shared-slice-known2 .given (loop .i))) (c .before .step .given .1)
+    let byte = next .before .shared-slice-known2 .given (loop .i) in
+    front-on (loop .inv) (omega arith) (next .next .ensures) (omega (arith, byte)) (c .before .step .given .1)
 
 enum-known-step-2 : tie.Need-enum-known-step-2 Inv-loop μ-loop
 enum-known-step-2 c = search needs

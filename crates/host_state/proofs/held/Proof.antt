@@ -4,7 +4,7 @@ use mathlib.Core.Bool.{true}
 use Prim.Native.Nat.{ℕ, _-_}
 use native.Mathlib.Omega.{arith}
 use borrow.Author.Tests.{not-true, not-false}
-use Rattle.base.proofs.Tests.{told-not}
+use Rattle.base.proofs.Tests.{not-as}
 use Rattle.host_state.specs.State.{isState}
 use Rattle.host_state.proofs.States.{state-size, state-bounds}
 use Rattle.host_state.proofs.Saves.{held-refused, held-counted}
@@ -13,13 +13,13 @@ use Rattle.host_state.proofs.held.Statement.{statement}
 use Rattle.host_state.proofs.held.Tie as tie
 
 good : (c : tie.Else1) → isState (c .before .before .before .args .state .now) ≡ true
-good c = not-false _ (told-not (c .before .is-state .ensures) (c .if1 .left))
+good c = not-false _ (not-as (c .before .is-state .ensures) (c .if1 .left))
 
 is-state-requires : tie.Need-is-state-requires
 is-state-requires c κs = search needs
 
 returns : tie.Need-returns
-returns c = held-refused _ (not-true _ (told-not (c .before .is-state .ensures) (c .if1 .taken)))
+returns c = held-refused _ (not-true _ (not-as (c .before .is-state .ensures) (c .if1 .taken)))
 
 shared-slice-read-wide : tie.Need-shared-slice-read-wide
 shared-slice-read-wide c = let size = state-size _ (good (c .before)) in omega arith

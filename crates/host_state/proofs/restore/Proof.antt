@@ -68,11 +68,11 @@ returns-2 : tie.Need-returns-2
 returns-2 c =
     let held = c .before .before in
     let restored = held .before .before .before .before in
-    let told = held .restored .given .1 in
+    let is = held .restored .given .1 in
     let s = stateBefore restored in
     let f = fits (restored .before .before) in
     let left = restored .restore-in .last .0 in
-    restore-done s f _ _ (ap (λ (r : Restored). (restoredRow r, left)) (sym told) ∙ restored .restore-in .ensures) (c .narrow .ensures)
+    restore-done s f _ _ (ap (λ (r : Restored). (restoredRow r, left)) (sym is) ∙ restored .restore-in .ensures) (c .narrow .ensures)
 
 same-length-3 : tie.Need-same-length-3
 same-length-3 c = search needs
@@ -80,12 +80,12 @@ same-length-3 c = search needs
 returns-3 : tie.Need-returns-3
 returns-3 c =
     let restored = c .before .before .before .before in
-    let told = c .enum-told .given .1 in
+    let is = c .enum-told .given .1 in
     let s = stateBefore restored in
     let f = fits (restored .before .before) in
     let left = restored .restore-in .last .0 in
-    ap (λ (r : Restored). (restoredRow r, written s f left)) told
-    ∙ restore-kept s f _ _ (ap (λ (r : Restored). (restoredRow r, left)) (sym told) ∙ restored .restore-in .ensures)
+    ap (λ (r : Restored). (restoredRow r, written s f left)) is
+    ∙ restore-kept s f _ _ (ap (λ (r : Restored). (restoredRow r, left)) (sym is) ∙ restored .restore-in .ensures)
 
 pub restore-spec : {M : Type 1} → statement M
 restore-spec =

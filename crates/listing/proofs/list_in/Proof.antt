@@ -1,6 +1,6 @@
 -- `listing::list_in` meets its contract. Assumes nothing.
 use borrow.Author.Tests.{not-true, not-false}
-use Rattle.base.proofs.Tests.{told-not}
+use Rattle.base.proofs.Tests.{not-as}
 use Rattle.listing.proofs.Filled.{refused-list}
 use borrow.Author.Needs.{needs}
 use Rattle.listing.proofs.list_in.Statement.{statement}
@@ -10,11 +10,11 @@ is-span-requires : tie.Need-is-span-requires
 is-span-requires c κs = search needs
 
 returns : tie.Need-returns
-returns c = refused-list (not-true _ (told-not (c .before .is-span .ensures) (c .if1 .taken)))
+returns c = refused-list (not-true _ (not-as (c .before .is-span .ensures) (c .if1 .taken)))
 
 fill-requires : tie.Need-fill-requires
 fill-requires c κs =
-    not-false _ (told-not (c .before .before .before .is-span .ensures) (c .before .before .if1 .left))
+    not-false _ (not-as (c .before .before .before .is-span .ensures) (c .before .before .if1 .left))
 
 same-length : tie.Need-same-length
 same-length c = search needs

@@ -4,7 +4,7 @@ use mathlib.Core.List.{List}
 use Prim.Native.Nat.{ℕ}
 use native.Mathlib.Omega.{arith}
 use Rattle.records.specs.declared.battery.Battery.{Battery}
-use Rattle.records.specs.Battery.{batteryValues, batteryAnswer}
+use Rattle.records.specs.Battery.{batteryValues, batteryDecoded}
 use Rattle.host_records.specs.Read.{givenAll}
 use Rattle.host_records.proofs.Given.{fixed-given, fixed-refused, battery-kept}
 use borrow.Author.Needs.{needs}
@@ -20,8 +20,8 @@ enum-known-read c = search needs
 give-battery-requires : tie.Need-give-battery-requires
 give-battery-requires c κs = search needs
 
-enum-told : tie.Need-enum-told
-enum-told c = search needs
+enum-known-read-2 : tie.Need-enum-known-read-2
+enum-known-read-2 c = search needs
 
 refuse-requires : tie.Need-refuse-requires
 refuse-requires c κs = search needs
@@ -30,7 +30,7 @@ same-length : tie.Need-same-length
 same-length c = search needs
 
 returns : tie.Need-returns
-unfolding batteryAnswer
+unfolding batteryDecoded
 returns c =
     let gave = c .before in
     let known = gave .before .before .before in
@@ -38,16 +38,17 @@ returns c =
     let a = read .before .before .args in
     let whole =
     battery-kept (a .payload .now) (known .read .given .0 .0) (λ (i : ℕ). omega (arith, read .before .shared-slice-known .given i))
-    (sym (read .from-bytes .ensures) ∙ ap batteryAnswer (known .read .given .1)) in
-    fixed-given batteryAnswer (a .out .now) (read .from-bytes .ensures) (known .read .given .1) refl
+    (sym (read .from-bytes .ensures) ∙ ap batteryDecoded (known .read .given .1)) in
+    fixed-given batteryDecoded (a .out .now) (read .from-bytes .ensures) (known .read .given .1) refl
     (gave .give-battery .ensures ∙ ap (λ (x : Battery). givenAll (batteryValues x) (a .out .now)) whole)
 
 returns-2 : tie.Need-returns-2
-unfolding batteryAnswer
+unfolding batteryDecoded
 returns-2 c =
-    let known = c .before in
+    let known = c .before .before in
     let read = known .before .before in
-    fixed-refused batteryAnswer (read .before .before .args .out .now) (read .from-bytes .ensures) (known .enum-told .given .1) refl (c .refuse .ensures)
+    fixed-refused batteryDecoded (read .before .before .args .out .now) (read .from-bytes .ensures)
+    (known .read2 .given .0 .0) (known .read2 .given .1) refl (c .refuse .ensures)
 
 pub crsf-read-battery-spec : {M : Type 1} → statement M
 crsf-read-battery-spec =
@@ -56,7 +57,7 @@ crsf-read-battery-spec =
     from-bytes-requires
     enum-known-read
     give-battery-requires
-    enum-told
+    enum-known-read-2
     refuse-requires
     same-length
     returns

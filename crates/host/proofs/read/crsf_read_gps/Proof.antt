@@ -1,6 +1,6 @@
 -- `host::read::crsf_read_gps` meets its contract. Assumes nothing.
 use mathlib.Core.Path.{refl}
-use Rattle.positions.specs.Gps.{gpsAnswer}
+use Rattle.positions.specs.Gps.{gpsDecoded}
 use Rattle.host_records.proofs.Given.{fixed-given, fixed-refused}
 use borrow.Author.Needs.{needs}
 use Rattle.host.proofs.read.crsf_read_gps.Statement.{statement}
@@ -15,8 +15,8 @@ enum-known-read c = search needs
 give-gps-requires : tie.Need-give-gps-requires
 give-gps-requires c κs = search needs
 
-enum-told : tie.Need-enum-told
-enum-told c = search needs
+enum-known-read-2 : tie.Need-enum-known-read-2
+enum-known-read-2 c = search needs
 
 refuse-requires : tie.Need-refuse-requires
 refuse-requires c κs = search needs
@@ -25,19 +25,20 @@ same-length : tie.Need-same-length
 same-length c = search needs
 
 returns : tie.Need-returns
-unfolding gpsAnswer
+unfolding gpsDecoded
 returns c =
     let gave = c .before in
     let known = gave .before .before .before in
     let read = known .before .before in
-    fixed-given gpsAnswer (read .before .before .args .out .now) (read .from-bytes .ensures) (known .read .given .1) refl (gave .give-gps .ensures)
+    fixed-given gpsDecoded (read .before .before .args .out .now) (read .from-bytes .ensures) (known .read .given .1) refl (gave .give-gps .ensures)
 
 returns-2 : tie.Need-returns-2
-unfolding gpsAnswer
+unfolding gpsDecoded
 returns-2 c =
-    let known = c .before in
+    let known = c .before .before in
     let read = known .before .before in
-    fixed-refused gpsAnswer (read .before .before .args .out .now) (read .from-bytes .ensures) (known .enum-told .given .1) refl (c .refuse .ensures)
+    fixed-refused gpsDecoded (read .before .before .args .out .now) (read .from-bytes .ensures)
+    (known .read2 .given .0 .0) (known .read2 .given .1) refl (c .refuse .ensures)
 
 pub crsf-read-gps-spec : {M : Type 1} → statement M
 crsf-read-gps-spec =
@@ -46,7 +47,7 @@ crsf-read-gps-spec =
     from-bytes-requires
     enum-known-read
     give-gps-requires
-    enum-told
+    enum-known-read-2
     refuse-requires
     same-length
     returns

@@ -1,6 +1,6 @@
 -- `host::read::crsf_read_link_statistics` meets its contract. Assumes nothing.
 use mathlib.Core.Path.{refl}
-use Rattle.records.specs.LinkStatistics.{linkStatisticsAnswer}
+use Rattle.records.specs.LinkStatistics.{linkStatisticsDecoded}
 use Rattle.host_records.proofs.Given.{fixed-given, fixed-refused}
 use borrow.Author.Needs.{needs}
 use Rattle.host.proofs.read.crsf_read_link_statistics.Statement.{statement}
@@ -15,8 +15,8 @@ enum-known-read c = search needs
 give-link-statistics-requires : tie.Need-give-link-statistics-requires
 give-link-statistics-requires c κs = search needs
 
-enum-told : tie.Need-enum-told
-enum-told c = search needs
+enum-known-read-2 : tie.Need-enum-known-read-2
+enum-known-read-2 c = search needs
 
 refuse-requires : tie.Need-refuse-requires
 refuse-requires c κs = search needs
@@ -25,19 +25,20 @@ same-length : tie.Need-same-length
 same-length c = search needs
 
 returns : tie.Need-returns
-unfolding linkStatisticsAnswer
+unfolding linkStatisticsDecoded
 returns c =
     let gave = c .before in
     let known = gave .before .before .before in
     let read = known .before .before in
-    fixed-given linkStatisticsAnswer (read .before .before .args .out .now) (read .from-bytes .ensures) (known .read .given .1) refl (gave .give-link-statistics .ensures)
+    fixed-given linkStatisticsDecoded (read .before .before .args .out .now) (read .from-bytes .ensures) (known .read .given .1) refl (gave .give-link-statistics .ensures)
 
 returns-2 : tie.Need-returns-2
-unfolding linkStatisticsAnswer
+unfolding linkStatisticsDecoded
 returns-2 c =
-    let known = c .before in
+    let known = c .before .before in
     let read = known .before .before in
-    fixed-refused linkStatisticsAnswer (read .before .before .args .out .now) (read .from-bytes .ensures) (known .enum-told .given .1) refl (c .refuse .ensures)
+    fixed-refused linkStatisticsDecoded (read .before .before .args .out .now) (read .from-bytes .ensures)
+    (known .read2 .given .0 .0) (known .read2 .given .1) refl (c .refuse .ensures)
 
 pub crsf-read-link-statistics-spec : {M : Type 1} → statement M
 crsf-read-link-statistics-spec =
@@ -46,7 +47,7 @@ crsf-read-link-statistics-spec =
     from-bytes-requires
     enum-known-read
     give-link-statistics-requires
-    enum-told
+    enum-known-read-2
     refuse-requires
     same-length
     returns

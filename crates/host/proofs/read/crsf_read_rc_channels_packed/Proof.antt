@@ -15,8 +15,8 @@ enum-told c = search needs
 give-channels-requires : tie.Need-give-channels-requires
 give-channels-requires c κs = search needs
 
-enum-told-2 : tie.Need-enum-told-2
-enum-told-2 c = search needs
+enum-known-answer : tie.Need-enum-known-answer
+enum-known-answer c = search needs
 
 refuse-requires : tie.Need-refuse-requires
 refuse-requires c κs = search needs
@@ -34,10 +34,11 @@ returns c =
 
 returns-2 : tie.Need-returns-2
 returns-2 c =
-    let known = c .before in
+    let known = c .before .before in
     let read = known .before .before .before in
     let a = read .before .before .before .args in
-    ap (λ (r : ℕ). (r, a .out .now)) (c .refuse .ensures) ∙ channels-refused (a .payload .now) (a .out .now) (read .from-bytes .ensures) (known .enum-told2 .given .1)
+    ap (λ (r : ℕ). (r, a .out .now)) (c .refuse .ensures)
+    ∙ channels-refused (a .payload .now) (a .out .now) (read .from-bytes .ensures) (known .answer .given .0 .0) (known .answer .given .1)
 
 pub crsf-read-rc-channels-packed-spec : {M : Type 1} → statement M
 crsf-read-rc-channels-packed-spec =
@@ -46,7 +47,7 @@ crsf-read-rc-channels-packed-spec =
     from-bytes-requires
     enum-told
     give-channels-requires
-    enum-told-2
+    enum-known-answer
     refuse-requires
     same-length
     returns

@@ -15,8 +15,8 @@ enum-told c = search needs
 give-rpm-requires : tie.Need-give-rpm-requires
 give-rpm-requires c κs = search needs
 
-enum-told-2 : tie.Need-enum-told-2
-enum-told-2 c = search needs
+enum-known-answer : tie.Need-enum-known-answer
+enum-known-answer c = search needs
 
 refuse-requires : tie.Need-refuse-requires
 refuse-requires c κs = search needs
@@ -34,10 +34,11 @@ returns c =
 
 returns-2 : tie.Need-returns-2
 returns-2 c =
-    let known = c .before in
+    let known = c .before .before in
     let read = known .before .before .before in
     let a = read .before .before .args in
-    ap (λ (r : ℕ). (r, a .out .now)) (c .refuse .ensures) ∙ rpm-refused (a .payload .now) (a .out .now) (read .from-bytes .ensures) (known .enum-told2 .given .1)
+    ap (λ (r : ℕ). (r, a .out .now)) (c .refuse .ensures)
+    ∙ rpm-refused (a .payload .now) (a .out .now) (read .from-bytes .ensures) (known .answer .given .0 .0) (known .answer .given .1)
 
 pub crsf-read-rpm-spec : {M : Type 1} → statement M
 crsf-read-rpm-spec =
@@ -46,7 +47,7 @@ crsf-read-rpm-spec =
     from-bytes-requires
     enum-told
     give-rpm-requires
-    enum-told-2
+    enum-known-answer
     refuse-requires
     same-length
     returns

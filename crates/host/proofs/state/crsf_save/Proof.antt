@@ -1,20 +1,21 @@
 -- `host::state::crsf_save` meets its contract. Assumes nothing.
-use Rattle.host_answer.proofs.Saves.{save-fits, answered-on}
+use Rattle.host_answer.proofs.Fits.{answered}
+use Rattle.host.proofs.Kept.{save-fits}
 use borrow.Author.Needs.{needs}
 use Rattle.host.proofs.state.crsf_save.Statement.{statement}
 use Rattle.host.proofs.state.crsf_save.Tie as tie
 
-save-lent-requires : tie.Need-save-lent-requires
-save-lent-requires c κs = search needs
+save-requires : tie.Need-save-requires
+save-requires c κs = search needs
 
-saved-answer-requires : tie.Need-saved-answer-requires
-saved-answer-requires c κs = search needs
+answer-written-requires : tie.Need-answer-written-requires
+answer-written-requires c κs = search needs
 
 same-length : tie.Need-same-length
 same-length c = search needs
 
 returns : tie.Need-returns
-returns c = answered-on (c .before .before .before .save-lent .ensures) (save-fits _ _) (c .saved-answer .ensures)
+returns c = answered (c .before .before .before .save .ensures) (save-fits _ _) (c .answer-written .ensures)
 
 pub crsf-save-spec : {M : Type 1} → statement M
-crsf-save-spec = tie.close (tie.spec save-lent-requires saved-answer-requires same-length returns)
+crsf-save-spec = tie.close (tie.spec save-requires answer-written-requires same-length returns)

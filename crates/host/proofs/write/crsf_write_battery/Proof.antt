@@ -1,7 +1,7 @@
 -- `host::write::crsf_write_battery` meets its contract. Assumes nothing.
 use Rattle.records.specs.declared.battery.Battery.{Battery}
 use Rattle.frames.proofs.Fits.{battery-small}
-use Rattle.host_answer.proofs.Writes.{frame-answered}
+use Rattle.host.proofs.Written.{frame-answered}
 use mir.Syntax.{w16}
 use mir.Val.{toZ, ofZ}
 use mir.ValLaws.{toZ-ofZ}
@@ -12,8 +12,8 @@ use Rattle.host.proofs.write.crsf_write_battery.Tie as tie
 write-battery-requires : tie.Need-write-battery-requires
 write-battery-requires c κs = search needs
 
-wrote-requires : tie.Need-wrote-requires
-wrote-requires c κs = search needs
+answer-written-requires : tie.Need-answer-written-requires
+answer-written-requires c κs = search needs
 
 same-length : tie.Need-same-length
 same-length c = search needs
@@ -25,8 +25,9 @@ returns c =
     let a = start .args in
     let packet : Battery =
     record { voltage = toZ w16 (ofZ w16 (a .voltage)); current = toZ w16 (ofZ w16 (a .current)); «capacity_used» = a .capacity-used; remaining = a .remaining; id = a .id } in
-    simp (toZ-ofZ w16 _ (fits .voltage), toZ-ofZ w16 _ (fits .current)) at (frame-answered _ _ _ _ (c .before .before .before .write-battery .ensures) (battery-small packet) tt (c .wrote .ensures))
+    simp (toZ-ofZ w16 _ (fits .voltage), toZ-ofZ w16 _ (fits .current))
+    at (frame-answered _ _ _ _ (c .before .before .before .write-battery .ensures) (battery-small packet) (c .answer-written .ensures))
 
 pub crsf-write-battery-spec : {M : Type 1} → statement M
 crsf-write-battery-spec =
-    tie.close (tie.spec write-battery-requires wrote-requires same-length returns)
+    tie.close (tie.spec write-battery-requires answer-written-requires same-length returns)

@@ -1,12 +1,12 @@
 -- `saved::form::save_in` meets its contract. Assumes nothing.
-use mathlib.Core.Path.{_≡_, _∙_}
-use mathlib.Core.Bool.{Bool, true, false, not}
+use mathlib.Core.Path.{_≡_}
+use mathlib.Core.Bool.{Bool, true, not}
 use Prim.Native.Nat.{_+_, _-_, _≤_}
 use native.Mathlib.Omega.{arith}
 use borrow.Author.Tests.{not-true, not-false, leb-true}
 use lib.ListN.{length}
 use Rattle.base.specs.Parts.{fitsIn}
-use Rattle.base.proofs.Tests.{told-not}
+use Rattle.base.proofs.Tests.{not-as}
 use Rattle.saved.specs.Form.{isSavable}
 use Rattle.saved.proofs.Forms.{Savable, savable, save-refused, save-short, save-written}
 use borrow.Author.Needs.{needs}
@@ -14,7 +14,7 @@ use Rattle.saved.proofs.form.save_in.Statement.{statement}
 use Rattle.saved.proofs.form.save_in.Tie as tie
 
 good : (c : tie.Else1) → (let a = c .before .before .before .before .args in isSavable (length (a .places .now)) (a .start) (a .end) ≡ true)
-good c = not-false _ (told-not (c .before .is-savable .ensures) (c .if1 .left))
+good c = not-false _ (not-as (c .before .is-savable .ensures) (c .if1 .left))
 
 span : (c : tie.Else1) → (let a = c .before .before .before .before .args in Savable (length (a .places .now)) (a .start) (a .end))
 span c = savable _ _ _ (good c)
@@ -23,7 +23,7 @@ span c = savable _ _ _ (good c)
 room : (c : tie.After-fits2) {t : Bool} → not (c .fits2 .result) ≡ t
     → (let a = c .before .before .before .before .before .before .args in
     not (fitsIn (length (a .out .now)) (c .before .size .result) (a .end - a .start)) ≡ t)
-room c e = told-not (c .fits2 .ensures) e
+room c e = not-as (c .fits2 .ensures) e
 
 is-savable-requires : tie.Need-is-savable-requires
 is-savable-requires c κs = search needs
@@ -31,7 +31,7 @@ is-savable-requires c κs = search needs
 returns : tie.Need-returns
 returns c =
     let a = c .before .before .before .before .args in
-    save-refused (a .places .now) (a .start) (a .end) (a .out .now) (not-true _ (told-not (c .before .is-savable .ensures) (c .if1 .taken)))
+    save-refused (a .places .now) (a .start) (a .end) (a .out .now) (not-true _ (not-as (c .before .is-savable .ensures) (c .if1 .taken)))
 
 sub-count : tie.Need-sub-count
 sub-count c = span c .ordered

@@ -1,0 +1,3 @@
+-- `Frames`: a payload through its frame. `Records`: each record.
+pub mod Frames
+pub mod Records
