@@ -65,7 +65,7 @@ fn altitudes(report: &mut Report, r: &mut Rng) {
             f.same(rust, ours::baro_decimetres(packed), || format!("packed {packed:04X}"));
         }
     });
-    report.family("GPS metres: every word, by the rules alone", |f| {
+    report.family("GPS metres: every word, by RULES 11 alone", |f| {
         for raw in 0..=u16::MAX {
             f.same(i32::from(raw) - 1000, ours::gps_metres(raw), || format!("metres of {raw}"));
         }
@@ -74,7 +74,7 @@ fn altitudes(report: &mut Report, r: &mut Rng) {
 
 /// Refusal 8, which the Rust's types rule out: nothing is changed.
 fn bad_states(report: &mut Report, r: &mut Rng) {
-    report.family("bad states and saved forms: by the rules alone", |f| {
+    report.family("bad states and saved forms: by RULES 9 and 14 alone", |f| {
         let refused = Answer::refusal(ours::BAD_STATE);
         for start in 0..=255u8 {
             for end in 0..=255u8 {
