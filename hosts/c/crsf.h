@@ -34,7 +34,7 @@
  *     crsf_pack_altitude                 24        crsf_baro_decimetres               24
  *     crsf_gps_metres                    24        crsf_write_link_statistics        432
  *     crsf_write_rc_channels_packed     608        crsf_write_gps                    384
- *     crsf_write_gps_extended           432        crsf_write_battery                384
+ *     crsf_write_gps_extended           432        crsf_write_battery                400
  *     crsf_write_baro_altitude          352        crsf_write_rpm                    736
  *     crsf_read_link_statistics          24        crsf_read_rc_channels_packed       56
  *     crsf_read_gps                      24        crsf_read_gps_extended             24
