@@ -5,9 +5,8 @@ use mathlib.Core.Bool.{Bool}
 use mathlib.Core.List.{List, [], _∷_, _++_}
 use Prim.Native.Nat.{ℕ, zero, suc, _+_, _-_, _<_}
 use native.Mathlib.Nat.{mod-eq-of-lt}
-use native.Mathlib.Omega.{arith}
 use lib.Dec.{ltb, lit<}
-use lib.ListN.{length, getD, take, drop}
+use lib.ListN.{length, getD}
 use lib.Seq.{getD-drop}
 use Rattle.base.specs.Bytes.{Bytes}
 use Rattle.base.proofs.Parts.{bytes-part}
@@ -31,7 +30,6 @@ use Rattle.stream.specs.declared.step.Moved.{Moved}
 use Rattle.host_state.specs.State.{startIn, endIn, placesIn, hasSize}
 use Rattle.host_answer.specs.Reply.{Calls}
 use Rattle.host_answer.specs.Seen.{unpacked}
-use Rattle.host_answer.proofs.Numbers.{refusalBytes}
 use Rattle.host.proofs.Refusals.{call-refuses}
 
 -- both values of a row are bytes

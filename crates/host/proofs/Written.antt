@@ -1,9 +1,9 @@
 -- What the writers answer fits a byte; and what is written where a record is made of a slice, or can't be made.
 -- Assumes nothing.
 use mathlib.Core.Path.{_≡_, refl, sym, ap, _∙_}
-use mathlib.Core.Bool.{true, false, _&&_}
-use mathlib.Core.List.{List, [], _∷_}
-use Prim.Native.Nat.{ℕ, _<_}
+use mathlib.Core.Bool.{_&&_}
+use mathlib.Core.List.{List, []}
+use Prim.Native.Nat.{ℕ}
 use native.Mathlib.Omega.{arith}
 use borrow.Author.Tests.{eq-eqb, ne-eqb}
 use lib.Dec.{leb}
@@ -11,7 +11,6 @@ use lib.IntN.{ℤ}
 use lib.ListN.{length, getD}
 use Rattle.base.proofs.Tests.{by-test}
 use Rattle.packets.specs.Listed.{listed}
-use Rattle.refusals.specs.Row.{rowOf}
 use Rattle.refusals.specs.declared.Refusal.{Refusal}
 use Rattle.refusals.specs.declared.Refusal.the-variants.{InvalidPayloadLength}
 use Rattle.refusals.proofs.Rows.{one-refusal, not-zero}

@@ -1,11 +1,10 @@
 -- The promise of a call of the stream leaves one answer, and one of all that is seen of the state.
 -- Assumes nothing.
-use mathlib.Core.Path.{_≡_, refl, sym, ap, _∙_}
+use mathlib.Core.Path.{_≡_, sym, ap, _∙_}
 use mathlib.Core.List.{List}
-use Prim.Native.Nat.{ℕ, _+_}
-use native.Mathlib.Omega.{arith}
+use Prim.Native.Nat.{ℕ}
 use lib.Dec.{eqb, lit<}
-use lib.ListN.{set, take, drop}
+use lib.ListN.{set}
 use lib.Seq.{drop-drop}
 use Rattle.base.specs.Choice.{if_then_else_}
 use Rattle.stream.specs.Seen.{Seen, unplaced, frameAmong, ifRefused, seen}

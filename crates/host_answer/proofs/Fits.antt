@@ -1,7 +1,6 @@
 -- Every count that an entry answers fits a byte, and what fits is answered as it is.
 -- Assumes nothing.
 use mathlib.Core.Path.{_≡_, refl, ap, _∙_}
-use mathlib.Core.Bool.{true, false}
 use mathlib.Core.List.{List, [], _∷_}
 use Prim.Native.Nat.{ℕ, _+_, _≤_, _<_}
 use native.Mathlib.Nat.{mod-eq-of-lt}
@@ -12,7 +11,7 @@ use Rattle.base.proofs.Tests.{by-test}
 use Rattle.refusals.specs.Row.{rowOf}
 use Rattle.refusals.specs.declared.Refusal.{Refusal}
 use Rattle.refusals.specs.declared.Refusal.the-variants.{BufferOverflow}
-use Rattle.writing.specs.Writing.{Image, bytes, refused, wroteRow, writeOf}
+use Rattle.writing.specs.Writing.{Image, bytes, refused, writeOf}
 use Rattle.reading.specs.Reading.{limit}
 use Rattle.stream.specs.declared.step.Place.{Place}
 use Rattle.stream.specs.declared.step.Place.the-variants.{InPiece, InHeld}

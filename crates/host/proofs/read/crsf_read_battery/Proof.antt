@@ -1,6 +1,5 @@
 -- `host::read::crsf_read_battery` meets its contract. Assumes nothing.
 use mathlib.Core.Path.{refl, sym, ap, _∙_}
-use mathlib.Core.List.{List}
 use Prim.Native.Nat.{ℕ}
 use native.Mathlib.Omega.{arith}
 use Rattle.records.specs.declared.battery.Battery.{Battery}
