@@ -159,13 +159,18 @@ fn walk_rust<'p>(_: &'p mut CrsfParser, input: &mut &[u8]) -> Option<Result<RawC
 
 /// The same in the place of the port's entry.
 unsafe extern "C" fn walk_ours(_: *mut u8, _: usize, input: *const u8, len: usize) -> Answer {
-    let more = Answer::refusal(ours::MORE);
+    /// Kept apart, so that a test stays a branch: a conditional move would make each frame wait for the test of the one before.
+    #[cold]
+    #[inline(never)]
+    fn torn() -> Answer {
+        Answer::refusal(ours::MORE)
+    }
     if len < 2 {
-        return more;
+        return Answer::refusal(ours::MORE);
     }
     let frame = unsafe { *input.add(1) }.wrapping_add(2);
     if usize::from(frame) > len {
-        return more;
+        return torn();
     }
     Answer { number: ours::FRAME, taken: frame, len: frame, ..Answer::default() }
 }

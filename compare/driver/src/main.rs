@@ -39,7 +39,17 @@ fn number(text: &str) -> u64 {
 }
 
 fn options() -> Options {
-    let mut o = Options { seed: 1, bytes: 20_000_000, root: ".".into(), bench: false, once: false, record: None, emulator: vec![], list: None, before_list: None };
+    let mut o = Options {
+        seed: 1,
+        bytes: 20_000_000,
+        root: ".".into(),
+        bench: false,
+        once: false,
+        record: None,
+        emulator: vec![],
+        list: None,
+        before_list: None,
+    };
     let mut words = std::env::args().skip(1);
     while let Some(word) = words.next() {
         let mut next = || words.next().unwrap_or_else(|| panic!("{word} wants a value; usage: {USAGE}"));

@@ -57,7 +57,8 @@ pub fn run(command: &[String], emulated: bool) {
         })
         .collect();
     println!("load after: {}", load());
-    println!("each number is the median of {RUNS} runs; a run is the best of {} rounds of each side, in turn ({} for the listing)\n", bench::ROUNDS, bench::LISTINGS);
+    let (rounds, listings) = (bench::ROUNDS, bench::LISTINGS);
+    println!("each number is the median of {RUNS} runs; a run is the best of {rounds} rounds of each side, in turn ({listings} for the listing)\n");
     table(&runs);
     println!();
     floors(&runs);

@@ -10,7 +10,6 @@ use lib.Seq.{take-at}
 use Rattle.base.proofs.Parts.{pasted-front, length-pasted}
 use Rattle.writing.specs.Writing.{Image, bytes, refused, writtenRow, writeOf}
 use Rattle.writing.specs.declared.Written.{Written}
-use Rattle.writing.specs.declared.Written.the-variants.{Wrote, Refused}
 use Rattle.writing.proofs.Writing.{writes, refuses}
 use Rattle.writing.proofs.Rows.{one-write}
 use Rattle.frames.specs.Frames.{mostPayload, imageIn, sizeIn, Small}

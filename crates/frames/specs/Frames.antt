@@ -1,5 +1,5 @@
 -- Whole frames (RULES 4): address, length, type, payload, check byte. Their writers refuse a bad address first, then what the record's own writer
--- refuses, then a buffer that is too short (RULES 2).
+-- refuses, then a buffer that is too short (RULES 1).
 -- Assumes nothing.
 use Prim.Native.Nat.{ℕ, _+_, _-_, _≤_}
 use mathlib.Core.List.{List, _∷_}

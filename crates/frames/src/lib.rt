@@ -18,8 +18,6 @@ use rpm::Rpm;
 use writing::Written;
 ghost use mathlib.Core.Path.{_≡_};
 ghost use Prim.Native.Nat.{_≤_};
-ghost use lib.Dec.{eqb};
-ghost use Rattle.base.specs.Choice.{if_then_else_};
 ghost use Rattle.writing.specs.Writing.{writtenRow, writeOf};
 ghost use Rattle.layout.specs.Layout.{sizeOf};
 ghost use Rattle.records.specs.LinkStatistics.{linkStatisticsType, linkStatisticsImage};

@@ -6,7 +6,7 @@ use native.Mathlib.Omega.{arith}
 use Prim.Native.Nat.{ℕ}
 use borrow.Author.Tests.{le-leb, lt-leb}
 use lib.IntN.{ℤ, pos}
-use lib.ListN.{length, take}
+use lib.ListN.{length}
 use Rattle.layout.specs.Decoded.{decoded}
 use Rattle.records.specs.Battery.{batteryLayout, shortLayout, batteryValues, batteryDecoded, batteryRead}
 use Rattle.layout.proofs.Readers.{gotFrom, got}

@@ -4,7 +4,7 @@ use mathlib.Core.Path.{refl}
 use native.Mathlib.Omega.{arith}
 use borrow.Author.Tests.{eq-eqb, ne-eqb}
 use lib.Dec.{lit≤}
-use lib.ListN.{take, drop}
+use lib.ListN.{drop}
 use Rattle.records.specs.Battery.{batteryLayout, shortLayout, batteryValues}
 use Rattle.layout.proofs.Writers.{putFrom, put-fields, no-room, wrote, wrote-in-two}
 use borrow.Author.Needs.{needs}
