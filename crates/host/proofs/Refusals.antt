@@ -2,14 +2,21 @@
 -- Assumes nothing.
 use mathlib.Core.Path.{_≡_, refl, ap, _∙_}
 use mathlib.Core.List.{List}
-use Prim.Native.Nat.{ℕ}
-use lib.Dec.{eqb}
+use mathlib.Core.Logic.{⊎-elim}
+use Prim.Native.Nat.{ℕ, _%_, _≤_, _<_}
+use native.Mathlib.Nat.{mod-eq-of-lt}
+use native.Mathlib.Omega.{arith}
 use lib.IntN.{ℤ}
+use Rattle.base.proofs.Tests.{below}
 use Rattle.refusals.specs.Row.{rowOf}
 use Rattle.refusals.specs.declared.Refusal.{Refusal}
+use Rattle.refusals.specs.declared.Refusal.the-variants.{ChannelRange}
 use Rattle.writing.specs.Writing.{Image, writeOf}
+use Rattle.writing.specs.Writing as writing
 use Rattle.layout.specs.Decoded.{Decoded, refused}
+use Rattle.channels.specs.Channels.{firstAbove, channelsImage}
 use Rattle.channels.specs.declared.RcChannelsPacked.{RcChannelsPacked}
+use Rattle.channels.proofs.Laws.{image-refused, image-bytes}
 use Rattle.rpm.specs.declared.Rpm.{Rpm}
 use Rattle.stream.specs.declared.step.Reply.the-variants.{Refused}
 use Rattle.frames.specs.Frames.{framed}
@@ -68,3 +75,13 @@ module _ (r : Refusal) where
   pub rpm-refuses : (read : List ℕ × Rpm) (out : List ℤ) → read .0 ≡ rowOf r → unpacked 8 (givesRpm read out .0) ≡ refusalBytes 0 r
   unfolding givesRpm
   rpm-refuses read out = beside _ out
+
+-- ---- what a byte has of a value
+
+-- what a call of the stream carries are bytes by their type; a channel's place is below sixteen: the low byte is the place itself
+pub channel-fits : (c : RcChannelsPacked) (i : ℕ) → channelsImage c ≡ writing.refused (ChannelRange i) → i % 256 ≡ i
+channel-fits c i e =
+    ⊎-elim
+    (λ (bad : firstAbove (c .0) < 16). let image = image-refused c bad in let is : i ≡ firstAbove (c .0) = cc in mod-eq-of-lt (omega arith))
+    (λ (good : 16 ≤ firstAbove (c .0)). let image = image-bytes c good in let z : _≡_ {A = ℕ} 0 1 = cc in absurd (omega arith))
+    (below (firstAbove (c .0)) 16)

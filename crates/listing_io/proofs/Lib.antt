@@ -1,2 +1,3 @@
--- What the proofs of several functions use.
+-- `Kept`: the loop over a piece. `Laws`: piece after piece.
 mod Kept
+pub mod Laws

@@ -5,6 +5,7 @@ use crate::write_text;
 use libc::STDERR_FILENO;
 use libc::STDIN_FILENO;
 ghost use mathlib.Core.Path.{_≡_};
+ghost use Prim.Native.Nat.{_≤_};
 ghost use Rattle.listing_io.specs.State.{statusAt};
 
 // What failed, and why, by errno: no call of C stands between the failure and this.
@@ -13,7 +14,9 @@ fn tell(what: &[u8]) {
     os::fail(what);
 }
 
-fn usage() -> u8 {
+fn usage() -> u8
+    ensures { λ r. ⌜ r ≤ 2 ⌝ }
+{
     io::write_all(
         STDERR_FILENO,
         b"usage: list [FILE]; list --help says more\n",
@@ -21,7 +24,9 @@ fn usage() -> u8 {
     2
 }
 
-fn after_print(is_written: bool) -> u8 {
+fn after_print(is_written: bool) -> u8
+    ensures { λ r. ⌜ r ≤ 2 ⌝ }
+{
     if is_written {
         return 0;
     }
@@ -39,6 +44,7 @@ fn tell_end(ended: Ended, name: &[u8]) {
 
 fn status_of(ended: Ended) -> u8
     ensures { λ r. ⌜ r ≡ statusAt ended ⌝ }
+    ensures { λ r. ⌜ r ≤ 2 ⌝ }
 {
     match ended {
         Ended::Listed(_) => 0,
@@ -47,17 +53,23 @@ fn status_of(ended: Ended) -> u8
     }
 }
 
-fn list_from(fd: i32, name: &[u8]) -> u8 {
+fn list_from(fd: i32, name: &[u8]) -> u8
+    ensures { λ r. ⌜ r ≤ 2 ⌝ }
+{
     let ended = list_input(fd);
     tell_end(ended, name);
     status_of(ended)
 }
 
-fn list_standard_input() -> u8 {
+fn list_standard_input() -> u8
+    ensures { λ r. ⌜ r ≤ 2 ⌝ }
+{
     list_from(STDIN_FILENO, b"standard input")
 }
 
-fn list_file(path: &[u8]) -> u8 {
+fn list_file(path: &[u8]) -> u8
+    ensures { λ r. ⌜ r ≤ 2 ⌝ }
+{
     let fd = os::open_read(path);
     if fd < 0 {
         tell(path);
@@ -66,7 +78,9 @@ fn list_file(path: &[u8]) -> u8 {
     list_from(fd, path)
 }
 
-fn refuse_option(word: &[u8]) -> u8 {
+fn refuse_option(word: &[u8]) -> u8
+    ensures { λ r. ⌜ r ≤ 2 ⌝ }
+{
     io::write_all(STDERR_FILENO, b"list: there is no option ");
     io::write_all(STDERR_FILENO, word);
     io::write_all(STDERR_FILENO, b"\n");
@@ -113,7 +127,9 @@ fn print_help() -> bool {
         )
 }
 
-fn of_word(word: &[u8]) -> u8 {
+fn of_word(word: &[u8]) -> u8
+    ensures { λ r. ⌜ r ≤ 2 ⌝ }
+{
     if is_word(word, b"-") {
         return list_standard_input();
     }
@@ -129,7 +145,9 @@ fn of_word(word: &[u8]) -> u8 {
     list_file(word)
 }
 
-fn of_argument() -> u8 {
+fn of_argument() -> u8
+    ensures { λ r. ⌜ r ≤ 2 ⌝ }
+{
     let mut word = io::buffer();
     let n = os::arg(1, &mut word);
     if os::errno() != 0 {
@@ -139,7 +157,9 @@ fn of_argument() -> u8 {
     of_word(&word[..n])
 }
 
-pub(crate) fn command() -> u8 {
+pub(crate) fn command() -> u8
+    ensures { λ r. ⌜ r ≤ 2 ⌝ }
+{
     let count = os::arg_count();
     if count < 2 {
         return list_standard_input();

@@ -284,6 +284,8 @@ fn list_input(fd: i32) -> Ended
 
 // The program. Answers its status: 0 where everything was read and written, 1 where a file, a read or a write failed, 2 for bad usage.
 #[no_mangle]
-pub extern "C" fn crsf_list() -> u8 {
+pub extern "C" fn crsf_list() -> u8
+    ensures { λ r. ⌜ r ≤ 2 ⌝ }
+{
     command::command()
 }

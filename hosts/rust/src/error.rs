@@ -10,7 +10,12 @@ pub enum CrsfStreamError {
     /// 2: the length byte is not 2 to 62.
     InvalidPacketLength(u8),
     /// 3: a whole frame whose check byte differs.
-    InvalidCrc { calculated: u8, carried: u8 },
+    InvalidCrc {
+        /// What the check byte should be.
+        calculated: u8,
+        /// What it is.
+        carried: u8,
+    },
     /// 8: the bytes are not a valid state, a saved form is malformed, or 64 bytes are held at a save. Nothing is changed.
     BadState,
 }

@@ -3,7 +3,7 @@
 //!
 //! The archive comes first: `rt staticlib host` writes it, and `./install PREFIX` installs it. It is looked for in the folder that `CRSF_ARCHIVE_DIR`
 //! names; without that variable in the repository's `target/staticlib`, or, from an installed package, in `PREFIX/lib`.
-#![deny(missing_debug_implementations)]
+#![deny(missing_debug_implementations, missing_docs)]
 
 mod entry;
 mod error;
