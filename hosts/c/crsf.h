@@ -32,7 +32,8 @@
  *     crsf_held                          24        crsf_is_address                    24
  *     crsf_header_of                     24        crsf_checksum                     352
  *     crsf_pack_altitude                 24        crsf_baro_decimetres               24
- *     crsf_gps_metres                    24        crsf_write_link_statistics        432
+ *     crsf_gps_metres                    24        crsf_channel_microseconds          24
+ *     crsf_raw_view                      24        crsf_write_link_statistics        432
  *     crsf_write_rc_channels_packed     608        crsf_write_gps                    384
  *     crsf_write_gps_extended           432        crsf_write_battery                400
  *     crsf_write_baro_altitude          352        crsf_write_rpm                    736
@@ -47,6 +48,7 @@
 #include <stdbool.h>
 #include <stddef.h>
 #include <stdint.h>
+#include <string.h>
 
 /* The version of this header and of the archive, and nowhere else decided: CHANGELOG.md says what changed. */
 #define CRSF_VERSION_MAJOR 0
@@ -66,7 +68,7 @@ typedef struct crsf_answer {
     uint8_t taken;    /* crsf_next_raw_packet: how many bytes of the input it took, at most 64 */
     uint8_t in_state; /* of a frame: 1 where its bytes stand in the state, 0 where they stand in the input */
     uint8_t at;       /* of a frame: where it begins, in the 66 bytes of the state or in the input */
-    uint8_t len;      /* the bytes of a frame; or how many bytes were written or are held; or how many numbers were read */
+    uint8_t len;      /* the bytes of a frame; or how many bytes were written or are held; or how many numbers were given */
     uint8_t first;    /* what a refusal carries, see below; the source id of an RPM record that was read */
     uint8_t second;   /* CRSF_INVALID_CRC: the carried check byte */
     uint8_t zero;     /* 0 */
@@ -78,9 +80,10 @@ enum {
     CRSF_INVALID_SYNC = 1,           /* first: a byte that is not an address. It is dropped */
     CRSF_INVALID_PACKET_LENGTH = 2,  /* first: a length byte that is not 2 to 62. One byte is dropped, the address before it */
     CRSF_INVALID_CRC = 3,            /* first: the calculated check byte; second: the carried one. One byte is dropped */
-    CRSF_INVALID_PAYLOAD_LENGTH = 4, /* a payload too short for its record; more than 19 RPM values, or none to write; not sixteen channels */
+    CRSF_INVALID_PAYLOAD_LENGTH = 4, /* a payload too short for its record; more than 19 RPM values, or none to write; not sixteen channels;
+                                      * a raw view of fewer than four bytes */
     CRSF_BUFFER_OVERFLOW = 5,        /* a buffer too short for what would be written: nothing was */
-    CRSF_CHANNEL_RANGE = 6,          /* first: the index of the first channel above 2047. Nothing was written */
+    CRSF_CHANNEL_RANGE = 6,          /* first: the index of the first channel above 2047, 0 of a single one. Nothing was written */
     CRSF_BAD_ADDRESS = 7,            /* a destination that is not an address. Nothing was written */
     CRSF_BAD_STATE = 8,              /* not a valid state, or a malformed saved form; 64 held bytes at a save. Nothing was taken or changed */
     CRSF_MORE = 255                  /* no answer yet: all of the input is taken, and more is asked for */
@@ -140,6 +143,22 @@ int32_t crsf_baro_decimetres(uint16_t packed);
 
 /* The altitude that a GPS record carries, in metres. */
 int32_t crsf_gps_metres(uint16_t raw);
+
+/* The microseconds of a raw channel value x of 0 to 2047: (x - 992) * 5 / 8 + 1500, exactly. The bits of that float go to out[0], and len is 1.
+ * Refusal 6 for a value above 2047, then 5 where out_len is 0, with out unchanged. crsf_channel_us has the float itself. */
+crsf_answer crsf_channel_microseconds(uint16_t raw, uint32_t *out, size_t out_len);
+
+/* What any four bytes or more show as a frame, in eight bytes as an answer has. The payload is the bytes_len - 4 bytes from bytes + 3 on. */
+typedef struct crsf_raw {
+    uint8_t number;  /* CRSF_OK; CRSF_INVALID_PAYLOAD_LENGTH for fewer than four bytes, and then the other fields are 0 */
+    uint8_t address; /* byte 0 */
+    uint8_t type;    /* byte 2 */
+    uint8_t check;   /* the last byte */
+    uint8_t zero[4]; /* 0 */
+} crsf_raw;
+
+/* The raw view. Nothing else is tested: not the address, not the length byte, not the check byte. */
+crsf_raw crsf_raw_view(const uint8_t *bytes, size_t bytes_len);
 
 /* ---- Records ------------------------------------------------------------------------------------------------------------------------------- */
 
@@ -268,6 +287,16 @@ static inline crsf_answer crsf_held_count(const crsf_state *state)
 static inline const uint8_t *crsf_frame_bytes(const crsf_state *state, const uint8_t *input, crsf_answer answer)
 {
     return answer.in_state ? (const uint8_t *)state + answer.at : input + answer.at;
+}
+
+/* The microseconds of a raw channel value. They go to *us where the answer is CRSF_OK; with refusal 6 it stays as it is. */
+static inline crsf_answer crsf_channel_us(uint16_t raw, float *us)
+{
+    uint32_t bits = 0;
+    crsf_answer answer = crsf_channel_microseconds(raw, &bits, 1);
+    if (answer.number == CRSF_OK)
+        memcpy(us, &bits, sizeof *us);
+    return answer;
 }
 
 /* The parts of a frame of len bytes, 4 to 64. */

@@ -54,6 +54,7 @@ static size_t count, room;
 static uint8_t dest;
 static uint16_t channels[16];
 static int32_t numbers[20];
+static uint32_t bits[1];
 static volatile unsigned sink;
 
 static void same(void) { state = first_state; }
@@ -73,6 +74,8 @@ ASK(checksum, bytes, count)
 ASK(pack_altitude, numbers[0])
 ASK(baro_decimetres, channels[0])
 ASK(gps_metres, channels[0])
+CALL(channel_microseconds, channels[0], bits, room % 2)
+CALL(raw_view, bytes, count % 9)
 CALL(write_link_statistics, buffer, room, dest, 1, 2, 3, 4, 5, 6, 7, 8, 9, 10)
 CALL(write_rc_channels_packed, buffer, room, dest, channels, count % 17)
 CALL(write_gps, buffer, room, dest, 1, 2, 3, 4, 5, 6)
@@ -96,6 +99,7 @@ static struct {
 } entries[] = {
     ENTRY(next_raw_packet), ENTRY(reset), ENTRY(save), ENTRY(restore), ENTRY(held),
     ENTRY(is_address), ENTRY(header_of), ENTRY(checksum), ENTRY(pack_altitude), ENTRY(baro_decimetres), ENTRY(gps_metres),
+    ENTRY(channel_microseconds), ENTRY(raw_view),
     ENTRY(write_link_statistics), ENTRY(write_rc_channels_packed), ENTRY(write_gps), ENTRY(write_gps_extended), ENTRY(write_battery),
     ENTRY(write_baro_altitude), ENTRY(write_rpm),
     ENTRY(read_link_statistics), ENTRY(read_rc_channels_packed), ENTRY(read_gps), ENTRY(read_gps_extended), ENTRY(read_battery),

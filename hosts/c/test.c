@@ -303,6 +303,47 @@ static void queries(void)
     CHECK(crsf_pack_altitude(-10001) == 0 && crsf_baro_decimetres(0xFFFF) == 327670 && crsf_gps_metres(0) == -1000);
 }
 
+/* Every raw value, with a place and without one, against the formula in C's own floats. */
+static void microseconds(void)
+{
+    for (unsigned raw = 0; raw <= 0xFFFF; raw++) {
+        uint32_t out[2] = {0x77777777, 0x77777777};
+        float us = -1, want = ((float)raw - 992) * 5 / 8 + 1500;
+        if (raw > 2047) {
+            CHECK(is(crsf_channel_microseconds((uint16_t)raw, out, 2), CRSF_CHANNEL_RANGE, 0, 0, 0, 0, 0, 0));
+            CHECK(is(crsf_channel_microseconds((uint16_t)raw, NULL, 0), CRSF_CHANNEL_RANGE, 0, 0, 0, 0, 0, 0));
+            CHECK(crsf_channel_us((uint16_t)raw, &us).number == CRSF_CHANNEL_RANGE && us == -1);
+            CHECK(out[0] == 0x77777777 && out[1] == 0x77777777);
+        } else {
+            CHECK(refusal(crsf_channel_microseconds((uint16_t)raw, out, 0), CRSF_BUFFER_OVERFLOW) && out[0] == 0x77777777);
+            CHECK(count(crsf_channel_microseconds((uint16_t)raw, out, 2), 1) && out[1] == 0x77777777);
+            CHECK(memcmp(out, &want, sizeof want) == 0);
+            CHECK(count(crsf_channel_us((uint16_t)raw, &us), 1) && us == want);
+        }
+    }
+    float us;
+    crsf_channel_us(992, &us);
+    CHECK(us == 1500.0f);
+}
+
+/* Raw views of 0 to 300 bytes. */
+static void raw_views(void)
+{
+    uint8_t bytes[300];
+    for (size_t i = 0; i < sizeof bytes; i++)
+        bytes[i] = (uint8_t)(i * 167 + i / 3 + 1);
+    for (size_t n = 0; n <= sizeof bytes; n++)
+        for (size_t from = 0; from <= sizeof bytes - n; from += 7) {
+            crsf_raw want = {CRSF_INVALID_PAYLOAD_LENGTH, 0, 0, 0, {0}};
+            const uint8_t *b = bytes + from;
+            if (n >= 4)
+                want = (crsf_raw){CRSF_OK, b[0], b[2], b[n - 1], {0}};
+            crsf_raw got = crsf_raw_view(b, n);
+            CHECK(memcmp(&got, &want, sizeof want) == 0);
+        }
+    CHECK(sizeof(crsf_raw) == 8 && crsf_raw_view(NULL, 0).number == CRSF_INVALID_PAYLOAD_LENGTH);
+}
+
 int main(void)
 {
     version();
@@ -312,6 +353,8 @@ int main(void)
     stream();
     records();
     queries();
+    microseconds();
+    raw_views();
     printf("C: %u checks of every entry hold\n", checks);
     return 0;
 }

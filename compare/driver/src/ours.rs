@@ -204,3 +204,18 @@ lent! {
     fn baro_decimetres(packed: u16) -> i32 = crsf_baro_decimetres(packed);
     fn gps_metres(raw: u16) -> i32 = crsf_gps_metres(raw);
 }
+
+// Entries that an archive of `compare/run --before` may lack: these stand in no table.
+extern "C" {
+    fn crsf_channel_microseconds(raw: u16, out: *mut u32, out_len: usize) -> Answer;
+    fn crsf_raw_view(bytes: *const u8, len: usize) -> u64;
+}
+
+pub fn channel_microseconds(raw: u16, out: &mut [u32]) -> Answer {
+    unsafe { crsf_channel_microseconds(raw, out.as_mut_ptr(), out.len()) }
+}
+
+/// Number, address, type, check byte, and four that are 0.
+pub fn raw_view(bytes: &[u8]) -> [u8; 8] {
+    unsafe { crsf_raw_view(bytes.as_ptr(), bytes.len()) }.to_le_bytes()
+}

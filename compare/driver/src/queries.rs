@@ -4,7 +4,7 @@ use crate::ours::{self, Answer, State};
 use crate::report::Report;
 use crc::{Crc, CRC_8_DVB_S2};
 use uf_crsf::packets::BaroAltitude;
-use uf_crsf::{PacketAddress, PacketType};
+use uf_crsf::{PacketAddress, PacketType, RawCrsfPacket};
 
 /// The check byte as the Rust is built here: the crate crc is a stand-in.
 pub static CHECK: Crc<u8> = Crc::<u8>::new(&CRC_8_DVB_S2);
@@ -47,7 +47,8 @@ pub fn compare(report: &mut Report, seed: u64) {
         }
     });
     altitudes(report, &mut r);
-    report.left_out("channel microseconds: every word", "they have no host entry");
+    microseconds(report);
+    raw_views(report, &mut r);
     bad_states(report, &mut r);
 }
 
@@ -68,6 +69,51 @@ fn altitudes(report: &mut Report, r: &mut Rng) {
     report.family("GPS metres: every word, by RULES 11 alone", |f| {
         for raw in 0..=u16::MAX {
             f.same(i32::from(raw) - 1000, ours::gps_metres(raw), || format!("metres of {raw}"));
+        }
+    });
+}
+
+/// The Rust has the formula in a comment and no function: it is computed here in its own f32.
+fn microseconds(report: &mut Report) {
+    report.family("channel microseconds: every word, by RULES 12 alone", |f| {
+        for raw in 0..=u16::MAX {
+            let us = (f32::from(raw) - 992.0) * 5.0 / 8.0 + 1500.0;
+            let (answer, none, bits) = if raw <= 2047 {
+                (Answer::wrote(1), Answer::refusal(ours::BUFFER_OVERFLOW), us.to_bits())
+            } else {
+                (Answer::refusal(ours::CHANNEL_RANGE), Answer::refusal(ours::CHANNEL_RANGE), 0x7777_7777)
+            };
+            let mut out = [0x7777_7777; 2];
+            f.same((answer, [bits, 0x7777_7777]), (ours::channel_microseconds(raw, &mut out), out), || format!("microseconds of {raw}"));
+            f.same(none, ours::channel_microseconds(raw, &mut []), || format!("microseconds of {raw}, without a place"));
+        }
+    });
+}
+
+fn raw_views(report: &mut Report, r: &mut Rng) {
+    report.family("raw view: every string of 0 to 2, every length to 300", |f| {
+        let mut one = |bytes: &[u8]| {
+            let (rust, payload) = match RawCrsfPacket::new(bytes) {
+                Some(p) => ([0, p.dst_addr(), p.raw_packet_type(), p.crc(), 0, 0, 0, 0], p.payload()),
+                None => ([ours::INVALID_PAYLOAD_LENGTH, 0, 0, 0, 0, 0, 0, 0], &[][..]),
+            };
+            let ours = ours::raw_view(bytes);
+            let behind = if ours[0] == ours::OK { &bytes[3..bytes.len() - 1] } else { &[][..] };
+            f.same((rust, payload), (ours, behind), || format!("raw view of {}", hex(bytes)));
+        };
+        one(&[]);
+        for a in 0..=255 {
+            one(&[a]);
+            for b in 0..=255 {
+                one(&[a, b]);
+            }
+        }
+        for len in 0..=300 {
+            let mut bytes = vec![0; len];
+            for _ in 0..500 {
+                r.fill(&mut bytes);
+                one(&bytes);
+            }
         }
     });
 }

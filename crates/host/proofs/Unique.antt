@@ -1,6 +1,7 @@
 -- Each entry's promise leaves one answer, and one content of each buffer lent to be written. `Post` is what the prover reads off the source's own
 -- `ensures`, so a weaker clause there breaks its line here.
 -- Assumes nothing.
+use mathlib.Core.Path.{sym, _∙_}
 use mathlib.Core.Bool.{Bool}
 use mathlib.Core.List.{List}
 use Prim.Native.Nat.{ℕ}
@@ -34,6 +35,9 @@ use Rattle.host.proofs.query.crsf_checksum.Reads as checksum
 use Rattle.host.proofs.query.crsf_pack_altitude.Reads as pack-altitude
 use Rattle.host.proofs.query.crsf_baro_decimetres.Reads as baro-decimetres
 use Rattle.host.proofs.query.crsf_gps_metres.Reads as gps-metres
+use Rattle.host.proofs.views.crsf_channel_microseconds.Reads as channel-microseconds
+use Rattle.host.proofs.views.crsf_raw_view.Reads as raw-view
+use Rattle.host.proofs.Shown.{by-answer}
 
 -- ---- The state
 
@@ -117,3 +121,11 @@ baro-decimetres-one κs a r r′ s s′ = same
 
 pub gps-metres-one : OneAnswer {Seen = ℤ} gps-metres.Post (λ κs r s. r)
 gps-metres-one κs a r r′ s s′ = same
+
+-- ---- Views
+
+pub channel-microseconds-one : OneAnswer {Seen = ℕ × List ℕ} channel-microseconds.Post (λ κs r s. (r, now (s .1 .0)))
+channel-microseconds-one κs a r r′ s s′ p q = by-answer p (q .exact) ∙ sym (q .gives)
+
+pub raw-view-one : OneAnswer {Seen = ℕ} raw-view.Post (λ κs r s. r)
+raw-view-one κs a r r′ s s′ = same

@@ -2,4 +2,5 @@
 pub mod query;
 pub mod read;
 pub mod state;
+pub mod views;
 pub mod write;

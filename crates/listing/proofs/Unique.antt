@@ -1,7 +1,9 @@
--- Each public function's promise leaves one answer: what two results that keep it show is the same. Free is only where the held bytes stand.
+-- Each public function's promise leaves one answer: what two results that keep it show is the same. Free is only where the held bytes stand, and of a
+-- refused state nothing is.
 -- Assumes nothing.
-use mathlib.Core.Path.{_≡_, sym, _∙_}
-use mathlib.Core.List.{List}
+use mathlib.Core.Path.{_≡_, refl, sym, _∙_}
+use mathlib.Core.Bool.{Bool, true, false}
+use mathlib.Core.List.{List, [], _∷_}
 use Prim.Native.Nat.{ℕ}
 use denote.Ref.{now}
 use lib.ListN.{length}
@@ -14,6 +16,7 @@ use Rattle.listing.specs.Listing.{Listing}
 use Rattle.listing.specs.Fill.{statusOf, Fills, Lists}
 use Rattle.listing.specs.declared.Listed.{Listed}
 use Rattle.listing.specs.declared.Status.{Status}
+use Rattle.listing.specs.declared.Status.the-variants.{More, Full, Refused}
 use Rattle.listing.proofs.list_in.Reads as list-in
 
 -- what a listing shows
@@ -23,19 +26,38 @@ pub record Shows : Type 0 where
   pub written : ℕ
   pub status : Status
   pub buffer : List ℕ
+  -- of a refused state, all of it: start, end and places
+  pub refused : List ℕ
+
+abbrev pub ifRefused : Status → List ℕ → List ℕ
+ifRefused More state = []
+ifRefused Full state = []
+ifRefused (Refused r) state = state
 
 abbrev pub shows : Listed → List ℕ → List ℕ → Shows
-shows r places out = record { held = heldIn places (r .start) (r .end); taken = r .taken; written = r .written; status = r .status; buffer = out }
+shows r places out = record {
+  held = heldIn places (r .start) (r .end);
+  taken = r .taken;
+  written = r .written;
+  status = r .status;
+  buffer = out;
+  refused = ifRefused (r .status) (r .start ∷ r .end ∷ places);
+}
+
+not-refused : (asks : Bool) (state : List ℕ) → ifRefused (statusOf asks) state ≡ []
+not-refused true state = refl
+not-refused false state = refl
 
 by-promise : {m : ℕ} {l : Listing} {input out places outAfter : List ℕ} {r : Listed} → Fills m l input out places outAfter r
     → shows r places outAfter
-    ≡ record { held = l .held; taken = l .taken; written = length (l .lines); status = statusOf (l .asks); buffer = pasted out 0 (l .lines) }
-by-promise d =
+    ≡ record { held = l .held; taken = l .taken; written = length (l .lines); status = statusOf (l .asks); buffer = pasted out 0 (l .lines); refused = [] }
+by-promise {l = l} {places = places} {r = r} d =
     let p = d .held-is in
     let q = d .taken-is in
     let u = d .written-is in
     let v = d .status-is in
     let w = d .buffer in
+    let x = not-refused (l .asks) (r .start ∷ r .end ∷ places) in
     cc
 
 one-listing : (before : List ℕ) (start end : ℕ) (input out : List ℕ) {places places′ outAfter outAfter′ : List ℕ} {r r′ : Listed}

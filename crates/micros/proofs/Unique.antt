@@ -32,11 +32,11 @@ one-pattern b b′ n p q =
     let digits : m ≡ m′ = eq-of-mul-eq-mul-right (2 ^ e′) (pow-pos e′) m m′ (ap (λ (k : ℕ). m * 2 ^ k) (sym power) ∙ same) in
     omega (arith, power, digits)
 
-one : (x : ℕ) {row row′ : List ℕ} → Answers x row → Answers x row′ → row ≡ row′
-one x (inl p) (inl q) = p .said ∙ ap exactRow (one-pattern (p .bits) (q .bits) (eighths x) (p .exact) (q .exact)) ∙ sym (q .said)
-one x (inl p) (inr q) = absurd (omega (arith, p .within, q .above))
-one x (inr p) (inl q) = absurd (omega (arith, p .above, q .within))
-one x (inr p) (inr q) = same (p .said) (q .said)
+pub one-row : (x : ℕ) {row row′ : List ℕ} → Answers x row → Answers x row′ → row ≡ row′
+one-row x (inl p) (inl q) = p .said ∙ ap exactRow (one-pattern (p .bits) (q .bits) (eighths x) (p .exact) (q .exact)) ∙ sym (q .said)
+one-row x (inl p) (inr q) = absurd (omega (arith, p .within, q .above))
+one-row x (inr p) (inl q) = absurd (omega (arith, p .above, q .within))
+one-row x (inr p) (inr q) = same (p .said) (q .said)
 
 pub to-microseconds-one : OneAnswer {Seen = List ℕ} to-microseconds.Post (λ κs r s. microsecondsRow r)
-to-microseconds-one κs a r r′ s s′ = one (a .0)
+to-microseconds-one κs a r r′ s s′ = one-row (a .0)

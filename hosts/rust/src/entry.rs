@@ -20,6 +20,22 @@ impl From<u64> for Answer {
     }
 }
 
+/// What a raw view answers, in the order of its eight bytes.
+#[derive(Clone, Copy, Debug, PartialEq, Eq)]
+pub struct Raw {
+    pub number: u8,
+    pub address: u8,
+    pub packet_type: u8,
+    pub check: u8,
+}
+
+impl From<u64> for Raw {
+    fn from(answer: u64) -> Self {
+        let [number, address, packet_type, check, ..] = answer.to_le_bytes();
+        Raw { number, address, packet_type, check }
+    }
+}
+
 mod archive {
     extern "C" {
         pub fn crsf_next_raw_packet(state: *mut u8, state_len: usize, input: *const u8, input_len: usize) -> u64;
@@ -33,6 +49,8 @@ mod archive {
         pub fn crsf_pack_altitude(decimetres: i32) -> u16;
         pub fn crsf_baro_decimetres(packed: u16) -> i32;
         pub fn crsf_gps_metres(raw: u16) -> i32;
+        pub fn crsf_channel_microseconds(raw: u16, out: *mut u32, out_len: usize) -> u64;
+        pub fn crsf_raw_view(bytes: *const u8, bytes_len: usize) -> u64;
         pub fn crsf_write_link_statistics(
             buffer: *mut u8,
             buffer_len: usize,
@@ -143,6 +161,15 @@ pub fn baro_decimetres(packed: u16) -> i32 {
 
 pub fn gps_metres(raw: u16) -> i32 {
     unsafe { archive::crsf_gps_metres(raw) }
+}
+
+/// The bits of the f32 go to `out`.
+pub fn channel_microseconds(raw: u16, out: &mut [u32]) -> Answer {
+    unsafe { archive::crsf_channel_microseconds(raw, out.as_mut_ptr(), out.len()) }.into()
+}
+
+pub fn raw_view(bytes: &[u8]) -> Raw {
+    unsafe { archive::crsf_raw_view(bytes.as_ptr(), bytes.len()) }.into()
 }
 
 /// A writer's wrapper: the buffer, the address, and then the record's numbers and slices.

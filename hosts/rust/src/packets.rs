@@ -172,6 +172,22 @@ impl BaroAltitude {
 #[derive(Clone, Copy, Debug, PartialEq, Eq)]
 pub struct RcChannelsPacked(pub [u16; 16]);
 
+impl RcChannelsPacked {
+    /// The microseconds of a raw channel value: exactly (x - 992) * 5 / 8 + 1500. One above 2047 is refused.
+    ///
+    /// ```
+    /// use crsf_host::{CrsfParsingError, RcChannelsPacked};
+    ///
+    /// assert_eq!(RcChannelsPacked::to_microseconds(992), Ok(1500.0));
+    /// assert_eq!(RcChannelsPacked::to_microseconds(2048), Err(CrsfParsingError::ChannelRange(0)));
+    /// ```
+    pub fn to_microseconds(channel: u16) -> Result<f32, CrsfParsingError> {
+        let mut bits = [0];
+        counted(entry::channel_microseconds(channel, &mut bits))?;
+        Ok(f32::from_bits(bits[0]))
+    }
+}
+
 impl CrsfPacket for RcChannelsPacked {
     const PACKET_TYPE: u8 = 0x16;
 

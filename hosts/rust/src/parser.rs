@@ -1,5 +1,5 @@
 //! The parser: a state of 66 bytes that is lent to each call, and the frames that it lends.
-use crate::entry;
+use crate::entry::{self, Raw};
 use crate::error::CrsfStreamError;
 
 const STATE_SIZE: usize = 66;
@@ -63,7 +63,8 @@ impl CrsfParser {
             255 => None,
             0 => {
                 let place: &'p [u8] = if answer.in_state { &self.state } else { piece };
-                Some(Ok(RawCrsfPacket { bytes: &place[answer.at..answer.at + answer.len] }))
+                // A frame has 4 bytes at least, so there is a view of it.
+                RawCrsfPacket::new(&place[answer.at..answer.at + answer.len]).map(Ok)
             }
             _ => Some(Err(CrsfStreamError::of(answer))),
         }
@@ -124,16 +125,14 @@ impl AsRef<[u8]> for SavedParser {
 #[derive(Clone, Copy, Debug, PartialEq, Eq)]
 pub struct RawCrsfPacket<'p> {
     bytes: &'p [u8],
+    shown: Raw,
 }
 
 impl<'p> RawCrsfPacket<'p> {
     /// A view of any 4 bytes or more; nothing else is tested.
     pub fn new(bytes: &'p [u8]) -> Option<Self> {
-        if bytes.len() < 4 {
-            None
-        } else {
-            Some(RawCrsfPacket { bytes })
-        }
+        let shown = entry::raw_view(bytes);
+        (shown.number == 0).then_some(RawCrsfPacket { bytes, shown })
     }
 
     /// The whole frame.
@@ -141,7 +140,7 @@ impl<'p> RawCrsfPacket<'p> {
         self.bytes
     }
 
-    /// How many bytes the frame has, 4 to 64.
+    /// How many bytes they are: of a frame 4 to 64.
     #[allow(clippy::len_without_is_empty)]
     pub fn len(&self) -> usize {
         self.bytes.len()
@@ -149,12 +148,12 @@ impl<'p> RawCrsfPacket<'p> {
 
     /// The address that it was sent to.
     pub fn dst_addr(&self) -> u8 {
-        self.bytes[0]
+        self.shown.address
     }
 
     /// The packet type, as `Battery::PACKET_TYPE`.
     pub fn raw_packet_type(&self) -> u8 {
-        self.bytes[2]
+        self.shown.packet_type
     }
 
     /// The bytes between the type and the check byte.
@@ -164,6 +163,6 @@ impl<'p> RawCrsfPacket<'p> {
 
     /// The check byte that it carries.
     pub fn crc(&self) -> u8 {
-        self.bytes[self.bytes.len() - 1]
+        self.shown.check
     }
 }

@@ -250,3 +250,26 @@ fn altitudes_in_their_units() {
     let gps = Gps { latitude: 0, longitude: 0, groundspeed: 0, heading: 0, altitude: 1120, satellites: 0 };
     assert_eq!(gps.altitude_metres(), 120);
 }
+
+#[test]
+fn microseconds_of_every_raw_value() {
+    for raw in 0..=u16::MAX {
+        let expected = if raw <= 2047 { Ok((f32::from(raw) - 992.0) * 5.0 / 8.0 + 1500.0) } else { Err(CrsfParsingError::ChannelRange(0)) };
+        assert_eq!(RcChannelsPacked::to_microseconds(raw), expected, "{raw}");
+    }
+}
+
+#[test]
+fn raw_views_of_any_bytes() {
+    for len in 0..=300 {
+        for seed in 0..20 {
+            let bytes = noise(len, seed);
+            let view = RawCrsfPacket::new(&bytes);
+            assert_eq!(view.is_some(), len >= 4);
+            if let Some(view) = view {
+                assert_eq!((view.dst_addr(), view.raw_packet_type(), view.crc()), (bytes[0], bytes[2], bytes[len - 1]));
+                assert_eq!((view.as_bytes(), view.len(), view.payload()), (&bytes[..], len, &bytes[3..len - 1]));
+            }
+        }
+    }
+}
