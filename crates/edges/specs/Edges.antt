@@ -29,15 +29,15 @@ pub data Case : Type 0 where
   writes : Battery × List ℕ → Case
 
 -- that it is so
-abbrev pub Holds : Case → Type 0
-Holds (gives e) = shown (reading limit (e .input)) ≡ e .gives
-Holds (carries e) = channelsImage (e .channels) ≡ bytes (e .gives)
-Holds (packs (d, word)) = packOf d ≡ word
-Holds (writes (battery, payload)) = batteryImage battery ≡ bytes payload
+abbrev pub IsSo : Case → Type 0
+IsSo (gives e) = shown (reading limit (e .input)) ≡ e .gives
+IsSo (carries e) = channelsImage (e .channels) ≡ bytes (e .gives)
+IsSo (packs (d, word)) = packOf d ≡ word
+IsSo (writes (battery, payload)) = batteryImage battery ≡ bytes payload
 
 abbrev pub AllHold : List Case → Type 0
 AllHold [] = Unit {0}
-AllHold (c ∷ more) = Holds c × AllHold more
+AllHold (c ∷ more) = IsSo c × AllHold more
 
 abbrev pub table : List Case
 table = map gives reading.edges ++ map carries channels.edges ++ map packs packEdges ++ map writes batteryEdges

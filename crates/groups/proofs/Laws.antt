@@ -13,7 +13,7 @@ use Rattle.groups.specs.Groups.{groups}
 use Rattle.groups.specs.Writing.{putOf}
 use Rattle.groups.specs.declared.Step.{Step}
 use Rattle.groups.specs.declared.Front.the-variants as front
-use Rattle.groups.specs.Reading.{step, Reading, unfinished, ends, malformed, run, read, frontOf}
+use Rattle.groups.specs.Reading.{step, NumberRead, unfinished, ends, malformed, run, read, frontOf}
 use Rattle.groups.proofs.Reading.{Case, on, many, zeroLast, large, last, cases, run-on, run-done, run-bad, same-end, not-unfinished, not-malformed, written-reads}
 
 -- ---- what stands behind a number is the rest of the string
@@ -56,7 +56,7 @@ module _ (g : ℕ) (s : List ℕ) where
   unfolding frontOf
   found {n} {size} = by (read g s) refl
     where
-      by : (r : Reading) → read g s ≡ r → front.Number n size ≡ frontOf (length s) r → Found g s n size
+      by : (r : NumberRead) → read g s ≡ r → front.Number n size ≡ frontOf (length s) r → Found g s n size
       by (ends k t) e q =
           let b = rest-of g s e in
           let number : k ≡ n = cc in

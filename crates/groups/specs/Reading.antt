@@ -39,22 +39,22 @@ stepOf greatest value weight b = if ltb value weight then step greatest value we
 -- ---- A string
 
 -- the string ends inside the number; the number ends, and this is what stands behind it; it is malformed, judged at the byte before this rest
-pub data Reading : Type 0 where
-  unfinished : (value weight : ℕ) → Reading
-  ends : (number : ℕ) (rest : List ℕ) → Reading
-  malformed : (rest : List ℕ) → Reading
+pub data NumberRead : Type 0 where
+  unfinished : (value weight : ℕ) → NumberRead
+  ends : (number : ℕ) (rest : List ℕ) → NumberRead
+  malformed : (rest : List ℕ) → NumberRead
 
-unfoldable pub run : ℕ → ℕ → ℕ → List ℕ → Reading
+unfoldable pub run : ℕ → ℕ → ℕ → List ℕ → NumberRead
 run greatest value weight [] = unfinished value weight
 run greatest value weight (b ∷ s) =
     elim (step greatest value weight b) [ GoesOn v w ↦ run greatest v w s | Done n ↦ ends n s | Malformed ↦ malformed s ]
 
 -- from the first byte on: nothing so far, and the first group is worth 1
-abbrev pub read : ℕ → List ℕ → Reading
+abbrev pub read : ℕ → List ℕ → NumberRead
 read greatest s = run greatest 0 1 s
 
 -- what the code says of the front of a string of that many bytes: the number and how many of them it takes up
-unfoldable pub frontOf : ℕ → Reading → Front
+unfoldable pub frontOf : ℕ → NumberRead → Front
 frontOf size (unfinished value weight) = front.Unfinished
 frontOf size (ends number rest) = front.Number number (size - length rest)
 frontOf size (malformed rest) = front.Malformed

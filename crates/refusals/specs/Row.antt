@@ -22,5 +22,5 @@ abbrev pub numberOf : Refusal → ℕ
 numberOf r = getD (rowOf r) 0 0
 
 -- a row as the code holds it
-abbrev pub shown : List ℕ → Row
-shown row = record { number = getD row 0 0; first = getD row 1 0; second = getD row 2 0 }
+abbrev pub structOf : List ℕ → Row
+structOf row = record { number = getD row 0 0; first = getD row 1 0; second = getD row 2 0 }

@@ -1,6 +1,6 @@
 // The refusals, with what each carries, and each as numbers. A new one is a variant here, an arm of `row_of` and a line of specs/Row.
 ghost use mathlib.Core.Path.{_≡_};
-ghost use Rattle.refusals.specs.Row.{shown, rowOf};
+ghost use Rattle.refusals.specs.Row.{rowOf, structOf};
 
 pub enum Refusal {
     // The byte that is no address.
@@ -25,7 +25,7 @@ pub struct Row {
 
 // Only this function takes a refusal apart: everything else goes by its row.
 pub fn row_of(refusal: Refusal) -> Row
-    ensures { λ r. ⌜ r ≡ shown (rowOf refusal) ⌝ }
+    ensures { λ r. ⌜ r ≡ structOf (rowOf refusal) ⌝ }
 {
     match refusal {
         Refusal::InvalidSync(byte) => {

@@ -18,7 +18,7 @@ use Rattle.writing.proofs.Writing.{writes, overflows, refuses}
 use Rattle.groups.specs.Groups.{groups}
 use Rattle.groups.specs.Writing.{putOf}
 use Rattle.groups.specs.declared.Front.the-variants as front
-use Rattle.groups.specs.Reading.{Reading, unfinished, ends, malformed, read, frontOf}
+use Rattle.groups.specs.Reading.{NumberRead, unfinished, ends, malformed, read, frontOf}
 use Rattle.groups.proofs.Groups.{one-group}
 use Rattle.groups.proofs.Laws.{rest-of, found, put-fits}
 use Rattle.stream.specs.Places.{heldIn}
@@ -63,7 +63,7 @@ pub record Accepted (m : ℕ) (form : List ℕ) : Type 0 where
   pub behind : heldOf m form ≡ drop size form
 
 module _ (m : ℕ) (form : List ℕ) where
-  by-count : 1 ≤ m → (r : Reading) → read (m - 1) form ≡ r → isCounted r ≡ true → Accepted m form
+  by-count : 1 ≤ m → (r : NumberRead) → read (m - 1) form ≡ r → isCounted r ≡ true → Accepted m form
   unfolding isCounted behindCount
   by-count some (unfinished v w) e good = absurd (let z : _≡_ {A = ℕ} 0 1 = cc in omega arith)
   by-count some (malformed rest) e good = absurd (let z : _≡_ {A = ℕ} 0 1 = cc in omega arith)
@@ -122,11 +122,11 @@ unfolding isForm
 no-limit {m} form e = sym (not-form m form (simp (lt-leb 1 m (omega arith))))
 
 module _ (m : ℕ) (form : List ℕ) where
-  counted-no : {r : Reading} → read (m - 1) form ≡ r → isCounted r ≡ false → isForm m form ≡ false
+  counted-no : {r : NumberRead} → read (m - 1) form ≡ r → isCounted r ≡ false → isForm m form ≡ false
   unfolding isForm
   counted-no e bad = by-test (leb 1 m) (λ t. simp t (ap isCounted e ∙ bad)) (λ t. simp t)
 
-  no-number : (r : Reading) → read (m - 1) form ≡ r → ((n k : ℕ) → front.Number n k ≡ frontOf (length form) r → ⊥) → 0 ≡ countSize m form
+  no-number : (r : NumberRead) → read (m - 1) form ≡ r → ((n k : ℕ) → front.Number n k ≡ frontOf (length form) r → ⊥) → 0 ≡ countSize m form
   unfolding isCounted frontOf
   no-number (unfinished v w) e never = sym (not-form m form (counted-no e refl))
   no-number (malformed rest) e never = sym (not-form m form (counted-no e refl))

@@ -6,7 +6,7 @@ use mathlib.Core.List.{List, [], _++_}
 use lib.Dec.{leb, ltb, eqb}
 use lib.ListN.{length}
 use Rattle.groups.specs.Groups.{groups}
-use Rattle.groups.specs.Reading.{Reading, unfinished, ends, malformed, read}
+use Rattle.groups.specs.Reading.{NumberRead, unfinished, ends, malformed, read}
 
 unfoldable pub savedForm : List ℕ → List ℕ
 savedForm held = groups (length held) ++ held
@@ -16,7 +16,7 @@ unfoldable pub isSavable : ℕ → ℕ → ℕ → Bool
 isSavable m start end = leb start end && (leb end m && ltb (end - start) m)
 
 -- a form is accepted where a count below the limit stands at its front, and exactly that many bytes behind it
-unfoldable pub isCounted : Reading → Bool
+unfoldable pub isCounted : NumberRead → Bool
 isCounted (unfinished value weight) = false
 isCounted (ends count rest) = eqb (length rest) count
 isCounted (malformed rest) = false
@@ -25,7 +25,7 @@ unfoldable pub isForm : ℕ → List ℕ → Bool
 isForm m form = leb 1 m && isCounted (read (m - 1) form)
 
 -- the held bytes of a form that is accepted: what stands behind the count
-unfoldable pub behindCount : Reading → List ℕ
+unfoldable pub behindCount : NumberRead → List ℕ
 behindCount (unfinished value weight) = []
 behindCount (ends count rest) = rest
 behindCount (malformed rest) = []

@@ -2,13 +2,13 @@
 use mathlib.Core.Path.{sym, ap}
 use Rattle.refusals.specs.declared.Refusal.{Refusal}
 use Rattle.refusals.specs.declared.Row.{Row}
-use Rattle.refusals.specs.Row.{rowOf, shown}
+use Rattle.refusals.specs.Row.{rowOf, structOf}
 use borrow.Author.Needs.{needs}
 use Rattle.refusals.proofs.row_of.Statement.{statement}
 use Rattle.refusals.proofs.row_of.Tie as tie
 
 abbrev says : Refusal → Row
-says r = shown (rowOf r)
+says r = structOf (rowOf r)
 
 enum-known-refusal : tie.Need-enum-known-refusal
 enum-known-refusal c = search needs
