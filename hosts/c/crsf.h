@@ -1,28 +1,45 @@
 /*
  * CRSF frames for a host in C: cut a byte stream into frames, save and restore midway, write and read records.
  *
- * Link the archive that `rt staticlib host` writes, target/staticlib/libhost.a. It needs no other library, allocates nothing, keeps nothing
- * between calls and is for x86-64 Linux.
+ * Link the archive: libcrsf.a where `./install PREFIX` put it (`pkg-config --cflags --libs crsf` has the flags), or target/staticlib/libhost.a
+ * where `rt staticlib host` wrote it. It is for x86-64 Linux, allocates nothing, keeps nothing between calls, and needs nothing from outside but
+ * memcpy and memset.
  *
- *     crsf_state state = {0};                                  // holds nothing
- *     while ((n = read(fd, piece, sizeof piece)) > 0) {
- *         const uint8_t *rest = piece;
- *         size_t left = n;
+ *     // Hands every frame of a piece to on_frame. Answers 0, or 8 where the state is not valid.
+ *     int take(crsf_state *state, const uint8_t *piece, size_t len)
+ *     {
  *         for (;;) {
- *             crsf_answer a = crsf_next(&state, rest, left);
- *             if (a.number == CRSF_MORE) break;                // everything is taken or held: read on
- *             if (a.number == CRSF_FRAME) {
- *                 const uint8_t *frame = crsf_frame_bytes(&state, rest, a);   // a.len bytes, until the next call
- *                 ..
- *             }                                                // else a refusal, 1 to 3: one byte is dropped, go on
- *             rest += a.taken;
- *             left -= a.taken;
+ *             crsf_answer a = crsf_next(state, piece, len);
+ *             if (a.number == CRSF_MORE)
+ *                 return 0;                            // the whole piece is taken: go on with the next one
+ *             if (a.number == CRSF_BAD_STATE)
+ *                 return a.number;                     // nothing was taken, and asking again changes nothing
+ *             if (a.number == CRSF_FRAME)              // a.len bytes, valid until the next call
+ *                 on_frame(crsf_frame_bytes(state, piece, a), a.len);
+ *             piece += a.taken;                        // after a refusal, 1 to 3, one byte was dropped: go on behind it
+ *             len -= a.taken;
  *         }
  *     }
  *
- * Every function takes any bytes and any lengths: nothing need be tested first. What it promises is proved of its code, for every input. What the
- * caller owes is what C always asks: a pointer with a length points to so many readable (and for a buffer that is not const, writable) elements; a
+ * Every function takes any bytes and any lengths: nothing has to be tested first. What it promises is proved of its code, for every input. What
+ * the caller owes is what C always asks: a pointer with a length points to that many readable elements (writable ones where it is not const); a
  * buffer that is written overlaps no other argument; no other thread touches the arguments meanwhile. With length 0 a pointer may be NULL.
+ *
+ * Stack: bytes that a call needs at most, with its return address and its arguments counted in. Measured on x86-64 by painting the stack:
+ * `hosts/test --stack` measures again, and fails where a call needs more than this.
+ *     crsf_next_raw_packet              400        crsf_reset                         24
+ *     crsf_save                          24        crsf_restore                       24
+ *     crsf_held                          24        crsf_is_address                    24
+ *     crsf_header_of                     24        crsf_checksum                     352
+ *     crsf_pack_altitude                 24        crsf_baro_decimetres               24
+ *     crsf_gps_metres                    24        crsf_write_link_statistics        432
+ *     crsf_write_rc_channels_packed     608        crsf_write_gps                    384
+ *     crsf_write_gps_extended           432        crsf_write_battery                384
+ *     crsf_write_baro_altitude          352        crsf_write_rpm                    736
+ *     crsf_read_link_statistics          24        crsf_read_rc_channels_packed       56
+ *     crsf_read_gps                      24        crsf_read_gps_extended             24
+ *     crsf_read_battery                  24        crsf_read_baro_altitude            24
+ *     crsf_read_rpm                     216
  */
 #ifndef CRSF_H
 #define CRSF_H
@@ -31,19 +48,25 @@
 #include <stddef.h>
 #include <stdint.h>
 
+/* The version of this header and of the archive, and nowhere else decided: CHANGELOG.md says what changed. */
+#define CRSF_VERSION_MAJOR 0
+#define CRSF_VERSION_MINOR 1
+#define CRSF_VERSION_PATCH 0
+#define CRSF_VERSION "0.1.0"
+
 #ifdef __cplusplus
 extern "C" {
 #endif
 
 /* ---- What every function answers ---------------------------------------------------------------------------------------------------------- */
 
-/* A field that an answer does not speak of is 0. The struct comes back by value, in one register. */
+/* A field that an answer does not speak of is 0: after CRSF_MORE and after a refusal, len is 0. The struct comes back by value, in one register. */
 typedef struct crsf_answer {
     uint8_t number;   /* CRSF_OK or CRSF_FRAME, 0; CRSF_MORE; or a refusal, 1 to 8 */
-    uint8_t taken;    /* a call of the stream: how many bytes of the input it took, at most 64 */
+    uint8_t taken;    /* crsf_next_raw_packet: how many bytes of the input it took, at most 64 */
     uint8_t in_state; /* of a frame: 1 where its bytes stand in the state, 0 where they stand in the input */
     uint8_t at;       /* of a frame: where it begins, in the 66 bytes of the state or in the input */
-    uint8_t len;      /* of a frame its bytes; else how many bytes were written or are held, or how many numbers were read */
+    uint8_t len;      /* the bytes of a frame; or how many bytes were written or are held; or how many numbers were read */
     uint8_t first;    /* what a refusal carries, see below; the source id of an RPM record that was read */
     uint8_t second;   /* CRSF_INVALID_CRC: the carried check byte */
     uint8_t zero;     /* 0 */
@@ -52,20 +75,20 @@ typedef struct crsf_answer {
 enum {
     CRSF_OK = 0,
     CRSF_FRAME = 0,
-    CRSF_INVALID_SYNC = 1,           /* first: a byte that is no address. It is dropped */
+    CRSF_INVALID_SYNC = 1,           /* first: a byte that is not an address. It is dropped */
     CRSF_INVALID_PACKET_LENGTH = 2,  /* first: a length byte that is not 2 to 62. One byte is dropped, the address before it */
     CRSF_INVALID_CRC = 3,            /* first: the calculated check byte; second: the carried one. One byte is dropped */
     CRSF_INVALID_PAYLOAD_LENGTH = 4, /* a payload too short for its record; more than 19 RPM values, or none to write; not sixteen channels */
-    CRSF_BUFFER_OVERFLOW = 5,        /* a buffer shorter than what would be written: nothing was */
+    CRSF_BUFFER_OVERFLOW = 5,        /* a buffer too short for what would be written: nothing was */
     CRSF_CHANNEL_RANGE = 6,          /* first: the index of the first channel above 2047. Nothing was written */
-    CRSF_BAD_ADDRESS = 7,            /* a destination that is no address. Nothing was written */
-    CRSF_BAD_STATE = 8,              /* no state, or no saved form; 64 held bytes at a save. Nothing was changed */
-    CRSF_MORE = 255                  /* no answer yet: all is taken, and more input is asked for */
+    CRSF_BAD_ADDRESS = 7,            /* a destination that is not an address. Nothing was written */
+    CRSF_BAD_STATE = 8,              /* not a valid state, or a malformed saved form; 64 held bytes at a save. Nothing was taken or changed */
+    CRSF_MORE = 255                  /* no answer yet: all of the input is taken, and more is asked for */
 };
 
 /* ---- The stream ---------------------------------------------------------------------------------------------------------------------------- */
 
-/* The bytes held between calls: places[start] up to places[end - 1]. All zero is a state that holds nothing. */
+/* The bytes held between calls: places[start] up to places[end - 1]. All zero is a state that holds nothing. It is valid where start <= end <= 64. */
 typedef struct crsf_state {
     uint8_t start;
     uint8_t end;
@@ -109,13 +132,13 @@ uint8_t crsf_header_of(uint8_t packet_type);
 /* The check byte of a type and its payload (CRC-8/DVB-S2). */
 uint8_t crsf_checksum(const uint8_t *bytes, size_t bytes_len);
 
-/* Decimetres as a barometric record carries them: below -10000 gives 0, above 327655 gives 0xFFFE. */
+/* Decimetres of altitude as a barometric record carries them: below -10000 gives 0, above 327655 gives 0xFFFE. */
 uint16_t crsf_pack_altitude(int32_t decimetres);
 
-/* What a barometric record carries, in decimetres. */
+/* The altitude that a barometric record carries, in decimetres. */
 int32_t crsf_baro_decimetres(uint16_t packed);
 
-/* What a GPS record carries, in metres. */
+/* The altitude that a GPS record carries, in metres. */
 int32_t crsf_gps_metres(uint16_t raw);
 
 /* ---- Records ------------------------------------------------------------------------------------------------------------------------------- */
@@ -130,36 +153,70 @@ enum {
     CRSF_TYPE_RC_CHANNELS_PACKED = 0x16
 };
 
-/* Writers: a whole frame to the front of the buffer, len its bytes; or refusal 7, then 4 or 6, then 5, with the buffer unchanged. A frame never
- * has more than 64 bytes, and no byte past it is touched. */
+/* Writers: a whole frame to the front of the buffer, and len is how many bytes it has; or refusal 7, then 4 or 6, then 5, with the buffer
+ * unchanged. A frame never has more than 64 bytes, and no byte past it is touched. dest is the address that the frame is sent to, as 0xC8, the
+ * flight controller's. */
 
+/* The quality of the radio link. Uplink is from the ground to the craft, downlink the other way.
+ *   uplink_rssi_1, uplink_rssi_2  signal strength at antenna 1 and at antenna 2, in dBm without its minus sign: 90 is -90 dBm
+ *   uplink_link_quality           packets that arrive, in percent
+ *   uplink_snr                    signal above noise, in dB
+ *   active_antenna                the antenna in use
+ *   rf_mode                       the radio's profile: 0 is 4 frames a second, 1 is 50, 2 is 150
+ *   uplink_tx_power               a step of power: 0 to 8 are 0, 10, 25, 100, 500, 1000, 2000, 250 and 50 mW
+ *   downlink_rssi, downlink_link_quality, downlink_snr    the same of the downlink */
 crsf_answer crsf_write_link_statistics(uint8_t *buffer, size_t buffer_len, uint8_t dest, uint8_t uplink_rssi_1, uint8_t uplink_rssi_2,
                                        uint8_t uplink_link_quality, int8_t uplink_snr, uint8_t active_antenna, uint8_t rf_mode,
                                        uint8_t uplink_tx_power, uint8_t downlink_rssi, uint8_t downlink_link_quality, int8_t downlink_snr);
 
-/* channels_len must be 16 (else 4), and no channel above 2047 (else 6). */
+/* The sixteen channels of a remote control. A channel x of 0 to 2047 stands for (x - 992) * 5 / 8 + 1500 microseconds: 992 is the middle.
+ * channels_len has to be 16 (else 4), and no channel above 2047 (else 6). */
 crsf_answer crsf_write_rc_channels_packed(uint8_t *buffer, size_t buffer_len, uint8_t dest, const uint16_t *channels, size_t channels_len);
 
-/* altitude is metres with 1000 added. */
+/* Where the craft is.
+ *   latitude, longitude   degrees times 10^7
+ *   groundspeed           hundredths of a km/h
+ *   heading               hundredths of a degree
+ *   altitude              metres with 1000 added: crsf_gps_metres takes them off
+ *   satellites            how many are in view */
 crsf_answer crsf_write_gps(uint8_t *buffer, size_t buffer_len, uint8_t dest, int32_t latitude, int32_t longitude, uint16_t groundspeed,
                            uint16_t heading, uint16_t altitude, uint8_t satellites);
 
+/* How the craft moves, and how well that is known.
+ *   fix_type                    the quality of the fix
+ *   n_speed, e_speed, v_speed   speed to the north, to the east and up, in cm/s
+ *   h_speed_acc                 how exact the horizontal speed is, in cm/s
+ *   track_acc                   how exact the heading is, in tenths of a degree
+ *   alt_ellipsoid               height above the GPS ellipsoid (not above the sea), in metres
+ *   h_acc, v_acc                how exact the place and the height are, in cm
+ *   reserved                    carried unchanged
+ *   h_dop, v_dop                dilution of precision, horizontal and vertical, in tenths */
 crsf_answer crsf_write_gps_extended(uint8_t *buffer, size_t buffer_len, uint8_t dest, uint8_t fix_type, int16_t n_speed, int16_t e_speed,
                                     int16_t v_speed, int16_t h_speed_acc, int16_t track_acc, int16_t alt_ellipsoid, int16_t h_acc,
                                     int16_t v_acc, uint8_t reserved, uint8_t h_dop, uint8_t v_dop);
 
-/* The low 24 bits of capacity_used are written; the id only where it is not 0. */
+/* A battery.
+ *   voltage         tenths of a volt: 120 is 12 V
+ *   current         tenths of an ampere: 15 is 1.5 A
+ *   capacity_used   mAh; the low 24 bits are written
+ *   remaining       percent
+ *   id              the sensor; 0 is not written, and a payload without one is read as 0 */
 crsf_answer crsf_write_battery(uint8_t *buffer, size_t buffer_len, uint8_t dest, int16_t voltage, int16_t current, uint32_t capacity_used,
                                uint8_t remaining, uint8_t id);
 
+/* Altitude by air pressure.
+ *   altitude_packed         above the starting point, packed: crsf_pack_altitude makes it from decimetres, crsf_baro_decimetres turns it back
+ *   vertical_speed_packed   on a logarithmic scale, negative downwards; carried as it is */
 crsf_answer crsf_write_baro_altitude(uint8_t *buffer, size_t buffer_len, uint8_t dest, uint16_t altitude_packed, int8_t vertical_speed_packed);
 
-/* 1 to 19 values (else 4), of each of which the low 24 bits are written. */
+/* Revolutions per minute of motors or propellers.
+ *   rpm_source_id   where the values come from: 0 is the first motor, 1 the second
+ *   rpm_values      1 to 19 of them (else 4), negative in reverse; of each the low 24 bits are written */
 crsf_answer crsf_write_rpm(uint8_t *buffer, size_t buffer_len, uint8_t dest, uint8_t rpm_source_id, const int32_t *rpm_values,
                            size_t rpm_values_len);
 
-/* Readers: a payload's numbers to the front of out, in the order of the writer's parameters; len is how many. Refusal 4 for a payload that is too
- * short, then 5 where out is, with out unchanged. Bytes of the payload past the record are ignored. */
+/* Readers: the numbers of a payload to the front of out, in the order and the units of the writer's parameters; len is how many. Refusal 4 for
+ * a payload that is too short, then 5 where out is too short, with out unchanged. Bytes of the payload past the record are ignored. */
 
 enum {
     CRSF_LINK_STATISTICS_NUMBERS = 10,

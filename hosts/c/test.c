@@ -33,8 +33,7 @@ static int count(crsf_answer a, uint8_t len)
     return is(a, CRSF_OK, 0, 0, 0, len, 0, 0);
 }
 
-/* What a stream says, in the lines of the listing, whatever the pieces. With save_at, the state is saved after so many calls, spoilt and
- * restored. */
+/* What a stream says, in the lines of the listing, whatever the pieces. The state is saved after save_at calls, spoilt and restored. */
 static void list(const uint8_t *bytes, size_t n, size_t piece, unsigned save_at, char *out)
 {
     crsf_state state = {0};
@@ -112,7 +111,7 @@ static void calls(void)
     CHECK(memcmp(crsf_frame_bytes(&state, frame + 3, a), frame, 4) == 0);
     CHECK(is(crsf_next(&state, wrong, 4), CRSF_INVALID_CRC, 1, 0, 0, 0, 0, 1));
     CHECK(is(crsf_next(&state, NULL, 0), CRSF_MORE, 0, 0, 0, 0, 0, 0));
-    /* a state of a wrong length, and one that is none, stay as they are */
+    /* a state of a wrong length, and one that is not valid, stay as they are */
     uint8_t bytes[67];
     for (size_t n = 0; n < sizeof bytes; n++)
         if (n != CRSF_STATE_SIZE) {
@@ -142,6 +141,33 @@ static void calls(void)
             }
 }
 
+/* After CRSF_MORE and after a refusal, len is 0, and so is every other field that the answer does not speak of. */
+static void empty_fields(void)
+{
+    crsf_state state = {0};
+    uint8_t buffer[70];
+    int32_t out[20];
+    CHECK(is(crsf_next(&state, (const uint8_t[]){0xC8, 2}, 2), CRSF_MORE, 2, 0, 0, 0, 0, 0));
+    CHECK(is(crsf_next(&state, NULL, 0), CRSF_MORE, 0, 0, 0, 0, 0, 0));
+    CHECK(is(crsf_next(&state, (const uint8_t[]){0, 7}, 2), CRSF_INVALID_CRC, 2, 0, 0, 0, 0, 7));
+    crsf_forget(&state);
+    CHECK(is(crsf_next(&state, (const uint8_t[]){0x55}, 1), CRSF_INVALID_SYNC, 1, 0, 0, 0, 0x55, 0));
+    CHECK(is(crsf_next(&state, (const uint8_t[]){0xC8, 1}, 2), CRSF_INVALID_PACKET_LENGTH, 1, 0, 0, 0, 1, 0));
+    state.start = 200;
+    state.end = 3;
+    CHECK(refusal(crsf_next(&state, buffer, 0), CRSF_BAD_STATE));
+    CHECK(refusal(crsf_read_gps(buffer, 14, out, 20), CRSF_INVALID_PAYLOAD_LENGTH));
+    CHECK(refusal(crsf_write_baro_altitude(buffer, 6, 0xC8, 1, 2), CRSF_BUFFER_OVERFLOW));
+    CHECK(refusal(crsf_write_baro_altitude(buffer, 70, 0x55, 1, 2), CRSF_BAD_ADDRESS));
+}
+
+static void version(void)
+{
+    char text[32];
+    sprintf(text, "%d.%d.%d", CRSF_VERSION_MAJOR, CRSF_VERSION_MINOR, CRSF_VERSION_PATCH);
+    CHECK(strcmp(text, CRSF_VERSION) == 0);
+}
+
 static void saves(void)
 {
     crsf_state state = {0};
@@ -160,7 +186,7 @@ static void saves(void)
     CHECK(count(crsf_held_count(&state), 3));
     CHECK(count(crsf_forget(&state), 0) && count(crsf_held_count(&state), 0));
     CHECK(count(crsf_restore_state(&state, form, 4), 3));
-    /* 64 held bytes are no saved form's */
+    /* 64 held bytes have no saved form */
     memset(&state, 0, sizeof state);
     state.end = 64;
     CHECK(refusal(crsf_save_state(&state, form, sizeof form), CRSF_BAD_STATE));
@@ -168,7 +194,7 @@ static void saves(void)
     CHECK(count(crsf_save_state(&state, form, sizeof form), 64) && form[0] == 63);
 }
 
-/* The payload of a frame that was just written: it is read as that frame. */
+/* The payload of a frame that was just written. The frame is read as itself. */
 static const uint8_t *payload_of(const uint8_t *buffer, size_t size, crsf_answer written, uint8_t type, uint8_t len)
 {
     crsf_state state = {0};
@@ -279,7 +305,9 @@ static void queries(void)
 
 int main(void)
 {
+    version();
     calls();
+    empty_fields();
     saves();
     stream();
     records();

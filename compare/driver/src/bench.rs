@@ -1,51 +1,117 @@
-//! Both sides timed in one run: rounds of each side in turn, the best of each kept, and the ratio of the two.
+//! One run of the timing: rounds of each side in turn, and the best of each side. medians.rs makes the table of seven runs.
+//!
+//! Each side is called in the same way, through a pointer of which the compiler knows nothing (`kept`), so that nothing of either side is compiled
+//! into the loop that times it, and each call is a call through a register.
 use crate::gen::{self, Rng};
 use crate::listing::Listing;
-use crate::ours::{self, State};
+use crate::ours::{self, kept, Answer, Entries, State};
 use crate::queries::CHECK;
 use crate::records::{self, Record, RECORDS};
+use crc::Crc;
 use std::hint::black_box;
 use std::time::Instant;
 use uf_crsf::packets::{write_packet_to_buffer, CrsfPacket};
 use uf_crsf::packets::{BaroAltitude, Battery, Gps, GpsExtended, LinkStatistics, RcChannelsPacked, Rpm};
-use uf_crsf::{CrsfParser, CrsfParsingError, PacketAddress};
+use uf_crsf::{CrsfParser, CrsfParsingError, CrsfStreamError, PacketAddress, RawCrsfPacket};
 
-const ROUNDS: usize = 151;
+/// How often a run comes to each row, so that all rows have their share of its quiet moments and of its fast clock.
+const VISITS: usize = 31;
+/// How many rounds of each side a visit has, in turn.
+const TURNS: usize = 5;
+pub const ROUNDS: usize = VISITS * TURNS;
+/// How many times a run starts each listing program.
+pub const LISTINGS: usize = 5;
 /// Bytes of a stream: a round is short, so that some rounds of each side are left in peace by whatever else runs.
 const STREAM: usize = 60_000;
+/// The length of a piece that is the whole stream.
+const WHOLE: usize = STREAM * 2;
 
-/// Nanoseconds for each of `count` things: the Rust, ours.
+pub const CONTIGUOUS: &str = "typical frames, contiguous";
+pub const BYTES: &str = "typical frames in 1-byte pieces";
+/// Both again with a call that reads the length byte and nothing else, so that what is left is the driver's own loop and the call.
+const LOOP: &str = "the driver's own loop, contiguous";
+pub const LOOP_BYTES: &str = "the driver's own loop in 1-byte pieces";
+/// The contiguous loop, and in it the check byte of each frame.
+pub const FLOOR: &str = "the driver's own loop and the check byte";
+pub const CHECKS: &str = "check byte of each typical frame";
+
+/// The archives that are timed: the one before, where there is one, and ours.
+pub fn archives() -> Vec<&'static Entries> {
+    vec![
+        #[cfg(before)]
+        &ours::BEFORE,
+        &ours::NOW,
+    ]
+}
+
+/// Nanoseconds of each side for each of `count` things: the Rust, the archive before where there is one, ours.
+fn say(name: &str, unit: &str, count: usize, seconds: &[f64]) {
+    let ns: Vec<String> = seconds.iter().map(|seconds| format!("{}", seconds * 1e9 / count as f64)).collect();
+    println!("{name}\t{unit}\t{}", ns.join("\t"));
+}
+
+/// A row that is timed: what each side does in a round, and the best of each side so far, in seconds.
 struct Row {
-    rust: f64,
-    ours: f64,
+    name: String,
+    unit: &'static str,
+    count: usize,
+    sides: Vec<Box<dyn Fn() -> u64>>,
+    best: Vec<f64>,
 }
 
-/// The best of many rounds of each side, taken in turn. Both give a sum, which must be the same.
-fn row(name: &str, unit: &str, count: usize, mut rust: impl FnMut() -> u64, mut ours: impl FnMut() -> u64) -> Row {
-    assert_eq!(rust(), ours(), "{name}: the two sides gave different sums");
-    let (mut best_rust, mut best_ours) = (f64::MAX, f64::MAX);
-    for _ in 0..ROUNDS {
-        let t = Instant::now();
-        black_box(rust());
-        best_rust = best_rust.min(t.elapsed().as_secs_f64());
-        let t = Instant::now();
-        black_box(ours());
-        best_ours = best_ours.min(t.elapsed().as_secs_f64());
+struct Rows(Vec<Row>);
+
+impl Rows {
+    /// One more row. All sides give a sum, which must be the same.
+    fn add(&mut self, name: &str, unit: &'static str, count: usize, rust: impl Fn() -> u64 + 'static, ours: impl Fn(&Entries) -> u64 + Copy + 'static) {
+        let mut sides: Vec<Box<dyn Fn() -> u64>> = vec![Box::new(rust)];
+        for entries in archives() {
+            sides.push(Box::new(move || ours(entries)));
+        }
+        assert!(sides.iter().all(|side| side() == sides[0]()), "{name}: the sides gave different sums");
+        let best = vec![f64::MAX; sides.len()];
+        self.0.push(Row { name: name.to_string(), unit, count, sides, best });
     }
-    let ns = |seconds: f64| seconds * 1e9 / count as f64;
-    let row = Row { rust: ns(best_rust), ours: ns(best_ours) };
-    println!("| {name} | {:.2} | {:.2} | {unit} | {:.2} |", row.rust, row.ours, row.ours / row.rust);
-    row
+
+    /// Times them all: the rows in turn, and in each the sides in turn, each side first as often as another.
+    fn time(&mut self) {
+        for visit in 0..VISITS {
+            for row in &mut self.0 {
+                for turn in 0..TURNS {
+                    for i in 0..row.sides.len() {
+                        let side = (visit + turn + i) % row.sides.len();
+                        let t = Instant::now();
+                        black_box((row.sides[side])());
+                        row.best[side] = row.best[side].min(t.elapsed().as_secs_f64());
+                    }
+                }
+            }
+        }
+        for row in &self.0 {
+            say(&row.name, row.unit, row.count, &row.best);
+        }
+    }
 }
 
-/// A stream in pieces through the Rust's parser, each piece until it asks for more. The sum is of frames' types and lengths.
+/// The Rust's call for the next frame.
+type Next = for<'p, 'i> fn(&'p mut CrsfParser, &mut &'i [u8]) -> Option<Result<RawCrsfPacket<'p>, CrsfStreamError>>;
+
+/// The Rust's own function as such a pointer.
+fn next_rust() -> Next {
+    let next: fn(&'static mut CrsfParser, &mut &'static [u8]) -> Option<Result<RawCrsfPacket<'static>, CrsfStreamError>> = CrsfParser::next_raw_packet;
+    // Its type asks that the input outlives the frame, which a pointer's type can't say; here the input outlives all.
+    unsafe { std::mem::transmute::<_, Next>(next) }
+}
+
+/// A stream in pieces through the Rust's call, each piece until it asks for more. The sum is of frames' types and lengths.
 #[inline(never)]
-fn stream_rust(bytes: &[u8], piece: usize) -> u64 {
+fn stream_rust(next: Next, bytes: &[u8], piece: usize) -> u64 {
+    let next = kept(&next);
     let mut parser = CrsfParser::new();
     let mut sum = 0;
     for piece in bytes.chunks(piece) {
         let mut left = piece;
-        while let Some(answer) = parser.next_raw_packet(&mut left) {
+        while let Some(answer) = next(&mut parser, &mut left) {
             sum += match answer {
                 Ok(frame) => frame.len() as u64 + (u64::from(frame.raw_packet_type()) << 32),
                 Err(_) => 1 << 52,
@@ -57,13 +123,14 @@ fn stream_rust(bytes: &[u8], piece: usize) -> u64 {
 
 /// The same through the port's entry.
 #[inline(never)]
-fn stream_ours(bytes: &[u8], piece: usize) -> u64 {
+fn stream_ours(entries: &Entries, bytes: &[u8], piece: usize) -> u64 {
+    let entries = entries.kept();
     let mut state: State = [0; 66];
     let mut sum = 0;
     for piece in bytes.chunks(piece) {
         let mut left = piece;
         loop {
-            let a = ours::next_raw_packet(&mut state, left);
+            let a = entries.next_raw_packet(&mut state, left);
             if a.number == ours::MORE {
                 break;
             }
@@ -75,6 +142,74 @@ fn stream_ours(bytes: &[u8], piece: usize) -> u64 {
             };
             left = &left[usize::from(a.taken)..];
         }
+    }
+    sum
+}
+
+/// In the place of the Rust's call: reads the length byte and answers a frame of that length. Nothing is checked.
+fn walk_rust<'p>(_: &'p mut CrsfParser, input: &mut &[u8]) -> Option<Result<RawCrsfPacket<'p>, CrsfStreamError>> {
+    let chunk = *input;
+    let len = usize::from(*chunk.get(1)?) + 2;
+    let (frame, rest) = chunk.split_at_checked(len)?;
+    *input = rest;
+    // As in `next_rust`: the input outlives the frame.
+    let frame: &'p [u8] = unsafe { std::mem::transmute(frame) };
+    RawCrsfPacket::new(frame).map(Ok)
+}
+
+/// The same in the place of the port's entry.
+unsafe extern "C" fn walk_ours(_: *mut u8, _: usize, input: *const u8, len: usize) -> Answer {
+    /// Kept apart, so that a test stays a branch: a conditional move would make each frame wait for the test of the one before.
+    #[cold]
+    #[inline(never)]
+    fn torn() -> Answer {
+        Answer::refusal(ours::MORE)
+    }
+    if len < 2 {
+        return Answer::refusal(ours::MORE);
+    }
+    let frame = unsafe { *input.add(1) }.wrapping_add(2);
+    if usize::from(frame) > len {
+        return torn();
+    }
+    Answer { number: ours::FRAME, taken: frame, len: frame, ..Answer::default() }
+}
+
+/// The archive's entries, but for the stream that which only walks.
+fn walking(entries: &Entries) -> Entries {
+    Entries { crsf_next_raw_packet: walk_ours, ..*entries }
+}
+
+type CheckRust = fn(&Crc<u8>, &[u8]) -> u8;
+
+/// The loop that only walks, and of each frame the check byte.
+#[inline(never)]
+fn floor_rust(bytes: &[u8]) -> u64 {
+    let (next, check) = kept(&(walk_rust as Next, Crc::<u8>::checksum as CheckRust));
+    let mut parser = CrsfParser::new();
+    let mut sum = 0;
+    let mut left = bytes;
+    while let Some(Ok(frame)) = next(&mut parser, &mut left) {
+        let bytes = frame.as_slice();
+        sum += u64::from(check(&CHECK, &bytes[2..bytes.len() - 1]) == bytes[bytes.len() - 1]);
+    }
+    sum
+}
+
+#[inline(never)]
+fn floor_ours(entries: &Entries, bytes: &[u8]) -> u64 {
+    let entries = walking(entries).kept();
+    let mut state: State = [0; 66];
+    let mut sum = 0;
+    let mut left = bytes;
+    loop {
+        let a = entries.next_raw_packet(&mut state, left);
+        if a.number == ours::MORE {
+            break;
+        }
+        let (bytes, rest) = left.split_at(usize::from(a.taken));
+        sum += u64::from(entries.checksum(&bytes[2..bytes.len() - 1]) == bytes[bytes.len() - 1]);
+        left = rest;
     }
     sum
 }
@@ -91,22 +226,70 @@ fn bodies(stream: &[u8]) -> Vec<&[u8]> {
     all
 }
 
+#[inline(always)]
 fn check_bytes(all: &[&[u8]], check: impl Fn(&[u8]) -> u8) -> u64 {
     all.iter().map(|bytes| u64::from(check(bytes))).sum()
+}
+
+/// The check byte of each of these, by the Rust.
+#[inline(never)]
+fn checks_rust(all: &[&[u8]]) -> u64 {
+    let check = kept(&(Crc::<u8>::checksum as CheckRust));
+    check_bytes(all, |bytes| check(&CHECK, bytes))
+}
+
+#[inline(never)]
+fn checks_ours(entries: &Entries, all: &[&[u8]]) -> u64 {
+    let entries = entries.kept();
+    check_bytes(all, |bytes| entries.checksum(bytes))
 }
 
 /// How many records a round reads or writes.
 const MANY: usize = 4096;
 
-/// A kind of record for timing: the Rust's reading and writing stand behind calls of their own, as the port's do. The Rust reads into its struct,
-/// and once more into lent numbers, which is what the port's entry does.
+/// Reads a payload after another, into places that are lent once for all.
+#[inline(always)]
+fn reads<N: Copy + Default, const PLACES: usize>(payloads: &[Vec<u8>], each: impl Fn(&[u8], &mut [N; PLACES]) -> bool) -> u64 {
+    let mut out = [N::default(); PLACES];
+    let mut sum = 0;
+    for i in 0..MANY {
+        sum += u64::from(each(black_box(&payloads[i % 64]), &mut out));
+        black_box(&out);
+    }
+    sum
+}
+
+/// Writes a record after another into one buffer.
+#[inline(always)]
+fn writes<R>(all: &[R], each: impl Fn(&mut [u8], &R) -> u64) -> u64 {
+    let mut b = [0u8; 64];
+    (0..MANY).map(|i| each(black_box(&mut b[..]), black_box(&all[i % 64]))).sum()
+}
+
+type ReadRust<R> = fn(&[u8]) -> Result<R, CrsfParsingError>;
+type WriteRust<R> = fn(&mut [u8], PacketAddress, &R) -> Result<usize, CrsfParsingError>;
+
+/// The Rust's reader to its struct.
+#[inline(never)]
+fn structs<R>(payloads: &[Vec<u8>], read: ReadRust<R>) -> u64 {
+    let read = kept(&read);
+    reads::<i32, 1>(payloads, |p, _| {
+        let answer = read(p);
+        black_box(&answer);
+        answer.is_ok()
+    })
+}
+
+/// The Rust's writer.
+#[inline(never)]
+fn frames<R>(all: &[R], write: WriteRust<R>) -> u64 {
+    let write = kept(&write);
+    writes(all, |b, r| write(b, PacketAddress::FlightController, r).unwrap_or(0) as u64)
+}
+
+/// A kind of record for timing. The Rust reads into its struct, and once more into lent numbers, which is what the port's entry does.
 macro_rules! record_rows {
-    ($name:expr, $kind:ty, $record:expr, $make:expr, $number:ty, $places:expr, $numbers:expr, $read_ours:expr, $write_ours:expr) => {{
-        #[inline(never)]
-        fn read(p: &[u8]) -> Result<$kind, CrsfParsingError> {
-            <$kind>::from_bytes(p)
-        }
-        #[inline(never)]
+    ($rows:expr, $name:expr, $kind:ty, $record:expr, $make:expr, $number:ty, $places:expr, $numbers:expr, $read_ours:expr, $write_ours:expr) => {{
         fn read_numbers(p: &[u8], out: &mut [$number]) -> Result<(), CrsfParsingError> {
             let r = <$kind>::from_bytes(p)?;
             let Some(out) = out.first_chunk_mut::<$places>() else { return Err(CrsfParsingError::BufferOverflow) };
@@ -117,72 +300,91 @@ macro_rules! record_rows {
             numbers(&r, $numbers, out);
             Ok(())
         }
-        #[inline(never)]
-        fn write(b: &mut [u8], r: &$kind) -> Result<usize, CrsfParsingError> {
-            write_packet_to_buffer(b, PacketAddress::FlightController, r)
-        }
         let record: &Record = $record;
         let mut r = Rng::new(7);
-        let all: Vec<$kind> = (0..64).map(|_| $make(&record.random_fields(&mut r))).collect();
-        let payloads: Vec<Vec<u8>> = all
+        let all: &'static [$kind] = (0..64).map(|_| $make(&record.random_fields(&mut r))).collect::<Vec<_>>().leak();
+        let payloads: &'static [Vec<u8>] = all
             .iter()
             .map(|x| {
                 let mut b = [0; 64];
-                let n = write(&mut b, x).expect("64 bytes are enough");
+                let n = write_packet_to_buffer(&mut b, PacketAddress::FlightController, x).expect("64 bytes are enough");
                 b[3..n - 1].to_vec()
             })
-            .collect();
-        let read_ours = |p: &[u8]| {
-            let mut out: [$number; $places] = [0; $places];
-            let answer = $read_ours(p, &mut out);
-            black_box(&out);
-            u64::from(answer.number == ours::OK)
+            .collect::<Vec<_>>()
+            .leak();
+        let read_ours = move |entries: &Entries| {
+            let entries = entries.kept();
+            reads::<$number, $places>(payloads, |p, out| $read_ours(&entries, p, &mut out[..]).number == ours::OK)
         };
-        let rust_struct = |p: &[u8]| u64::from(black_box(read(p)).is_ok());
-        let rust_numbers = |p: &[u8]| {
-            let mut out: [$number; $places] = [0; $places];
-            let answer = read_numbers(p, &mut out);
-            black_box(&out);
-            u64::from(answer.is_ok())
+        let rust_numbers = move || {
+            let read = kept(&(read_numbers as fn(&[u8], &mut [$number]) -> Result<(), CrsfParsingError>));
+            reads::<$number, $places>(payloads, |p, out| read(p, &mut out[..]).is_ok())
         };
-        let over = |each: &dyn Fn(&[u8]) -> u64| (0..MANY).map(|i| each(black_box(&payloads[i % 64]))).sum::<u64>();
-        row(&format!("{} read, the Rust to its struct", $name), "record", MANY, || over(&rust_struct), || over(&read_ours));
-        row(&format!("{} read, both to numbers", $name), "record", MANY, || over(&rust_numbers), || over(&read_ours));
-        row(
-            &format!("{} written", $name),
-            "frame",
-            MANY,
-            || {
-                let mut b = [0u8; 64];
-                (0..MANY).map(|i| write(black_box(&mut b), black_box(&all[i % 64])).unwrap_or(0) as u64).sum()
-            },
-            || {
-                let mut b = [0u8; 64];
-                (0..MANY).map(|i| u64::from($write_ours(black_box(&mut b[..]), 0xC8, black_box(&all[i % 64])).len)).sum()
-            },
-        );
+        $rows.add(&format!("{} read, the Rust to its struct", $name), "record", MANY, || structs(payloads, <$kind>::from_bytes), read_ours);
+        $rows.add(&format!("{} read, both to numbers", $name), "record", MANY, rust_numbers, read_ours);
+        $rows.add(&format!("{} written", $name), "frame", MANY, || frames(all, write_packet_to_buffer::<$kind>), |entries| {
+            let entries = entries.kept();
+            writes(all, |b, r| u64::from($write_ours(&entries, b, 0xC8, r).len))
+        });
     }};
 }
 
-fn altitude_rows() {
-    let heights: Vec<i32> = (0..MANY as i32).map(|i| i * 80 - 10_000).collect();
-    row("altitude packed", "value", MANY, || sum(&heights, |d| u64::from(pack_rust(d))), || sum(&heights, |d| u64::from(ours::pack_altitude(d))));
-    let words: Vec<u16> = (0..MANY as u16).map(|i| i.wrapping_mul(17)).collect();
-    row("altitude unpacked", "value", MANY, || sum(&words, |w| unpack_rust(w) as u64), || sum(&words, |w| ours::baro_decimetres(w) as u64));
-}
+/// Both sides' altitudes are of this type, so that one loop times them all.
+type Number<A, B> = unsafe extern "C" fn(A) -> B;
 
-#[inline(never)]
-fn pack_rust(decimetres: i32) -> u16 {
+extern "C" fn pack_rust(decimetres: i32) -> u16 {
     BaroAltitude::get_altitude_packed(decimetres)
 }
 
-#[inline(never)]
-fn unpack_rust(packed: u16) -> i32 {
+extern "C" fn unpack_rust(packed: u16) -> i32 {
     BaroAltitude { altitude_packed: packed, vertical_speed_packed: 0 }.get_altitude_dm()
 }
 
-fn sum<T: Copy>(inputs: &[T], each: impl Fn(T) -> u64) -> u64 {
-    inputs.iter().map(|x| each(black_box(*x))).fold(0, u64::wrapping_add)
+extern "C" fn empty(decimetres: i32) -> u16 {
+    decimetres as u16
+}
+
+#[inline(never)]
+fn numbers<A: Copy, B: Into<i64>>(inputs: &[A], each: Number<A, B>) -> u64 {
+    let each = kept(&each);
+    inputs.iter().map(|x| unsafe { each(black_box(*x)) }.into() as u64).fold(0, u64::wrapping_add)
+}
+
+fn altitude_rows(rows: &mut Rows) {
+    let heights: &'static [i32] = (0..MANY as i32).map(|i| i * 80 - 10_000).collect::<Vec<_>>().leak();
+    let words: &'static [u16] = (0..MANY as u16).map(|i| i.wrapping_mul(17)).collect::<Vec<_>>().leak();
+    rows.add("altitude packed", "value", MANY, || numbers(heights, pack_rust), |e| numbers(heights, e.crsf_pack_altitude));
+    rows.add("altitude unpacked", "value", MANY, || numbers(words, unpack_rust), |e| numbers(words, e.crsf_baro_decimetres));
+    rows.add("altitude, an empty call", "value", MANY, || numbers(heights, empty), |_| numbers(heights, empty));
+}
+
+/// What a record costs before anything of it is read or written: calls of link statistics' own signatures that answer at once.
+fn empty_rows(rows: &mut Rows) {
+    fn read_rust(_: &[u8]) -> Result<LinkStatistics, CrsfParsingError> {
+        Ok(records::link_statistics(&[0; 10]))
+    }
+    fn write_rust(_: &mut [u8], _: PacketAddress, _: &LinkStatistics) -> Result<usize, CrsfParsingError> {
+        Ok(14)
+    }
+    unsafe extern "C" fn read_ours(_: *const u8, _: usize, _: *mut i32, _: usize) -> Answer {
+        Answer::default()
+    }
+    #[rustfmt::skip]
+    unsafe extern "C" fn write_ours(
+        _: *mut u8, _: usize, _: u8, _: u8, _: u8, _: u8, _: i8, _: u8, _: u8, _: u8, _: u8, _: u8, _: i8,
+    ) -> Answer {
+        Answer::wrote(14)
+    }
+    let payloads: &'static [Vec<u8>] = vec![vec![0; 10]; 64].leak();
+    rows.add("link statistics, empty readers", "record", MANY, || structs(payloads, read_rust), |e| {
+        let e = Entries { crsf_read_link_statistics: read_ours, ..*e }.kept();
+        reads::<i32, 10>(payloads, |p, out| e.read_link_statistics(p, out).number == ours::OK)
+    });
+    let all: &'static [LinkStatistics] = vec![records::link_statistics(&[0; 10]); 64].leak();
+    rows.add("link statistics, empty writers", "frame", MANY, || frames(all, write_rust), |e| {
+        let e = Entries { crsf_write_link_statistics: write_ours, ..*e }.kept();
+        writes(all, |b, r| u64::from(e.write_link_statistics(b, 0xC8, r).len))
+    });
 }
 
 fn rpm_of(f: &[i64]) -> Rpm {
@@ -190,9 +392,9 @@ fn rpm_of(f: &[i64]) -> Rpm {
     Rpm::new(f[0] as u8, &values).expect("four values are allowed")
 }
 
-fn record_row_of_each_kind() {
+fn record_row_of_each_kind(rows: &mut Rows) {
     record_rows!(
-        "link statistics", LinkStatistics, &RECORDS[0], records::link_statistics, i32, 10,
+        rows, "link statistics", LinkStatistics, &RECORDS[0], records::link_statistics, i32, 10,
         |r, o| {
             o[0] = i32::from(r.uplink_rssi_1);
             o[1] = i32::from(r.uplink_rssi_2);
@@ -205,15 +407,15 @@ fn record_row_of_each_kind() {
             o[8] = i32::from(r.downlink_link_quality);
             o[9] = i32::from(r.downlink_snr);
         },
-        ours::read_link_statistics, ours::write_link_statistics
+        Entries::read_link_statistics, Entries::write_link_statistics
     );
     record_rows!(
-        "channels", RcChannelsPacked, &RECORDS[1], |f: &[i64]| RcChannelsPacked(std::array::from_fn(|i| f[i] as u16)), u16, 16,
+        rows, "channels", RcChannelsPacked, &RECORDS[1], |f: &[i64]| RcChannelsPacked(std::array::from_fn(|i| f[i] as u16)), u16, 16,
         |r, o| *o = r.0,
-        ours::read_rc_channels_packed, |b: &mut [u8], dest, r: &RcChannelsPacked| ours::write_rc_channels_packed(b, dest, &r.0)
+        Entries::read_rc_channels_packed, |e: &Entries, b: &mut [u8], dest, r: &RcChannelsPacked| e.write_rc_channels_packed(b, dest, &r.0)
     );
     record_rows!(
-        "GPS", Gps, &RECORDS[2], records::gps, i32, 6,
+        rows, "GPS", Gps, &RECORDS[2], records::gps, i32, 6,
         |r, o| {
             o[0] = r.latitude;
             o[1] = r.longitude;
@@ -222,10 +424,10 @@ fn record_row_of_each_kind() {
             o[4] = i32::from(r.altitude);
             o[5] = i32::from(r.satellites);
         },
-        ours::read_gps, ours::write_gps
+        Entries::read_gps, Entries::write_gps
     );
     record_rows!(
-        "GPS extended", GpsExtended, &RECORDS[3], records::gps_extended, i32, 12,
+        rows, "GPS extended", GpsExtended, &RECORDS[3], records::gps_extended, i32, 12,
         |r, o| {
             o[0] = i32::from(r.fix_type);
             o[1] = i32::from(r.n_speed);
@@ -240,10 +442,10 @@ fn record_row_of_each_kind() {
             o[10] = i32::from(r.h_dop);
             o[11] = i32::from(r.v_dop);
         },
-        ours::read_gps_extended, ours::write_gps_extended
+        Entries::read_gps_extended, Entries::write_gps_extended
     );
     record_rows!(
-        "battery", Battery, &RECORDS[4], records::battery, i32, 5,
+        rows, "battery", Battery, &RECORDS[4], records::battery, i32, 5,
         |r, o| {
             o[0] = i32::from(r.voltage);
             o[1] = i32::from(r.current);
@@ -251,71 +453,61 @@ fn record_row_of_each_kind() {
             o[3] = i32::from(r.remaining);
             o[4] = i32::from(r.id);
         },
-        ours::read_battery, ours::write_battery
+        Entries::read_battery, Entries::write_battery
     );
     record_rows!(
-        "altitude", BaroAltitude, &RECORDS[5], records::baro_altitude, i32, 2,
+        rows, "altitude", BaroAltitude, &RECORDS[5], records::baro_altitude, i32, 2,
         |r, o| {
             o[0] = i32::from(r.altitude_packed);
             o[1] = i32::from(r.vertical_speed_packed);
         },
-        ours::read_baro_altitude, ours::write_baro_altitude
+        Entries::read_baro_altitude, Entries::write_baro_altitude
     );
     record_rows!(
-        "RPM of 4 values", Rpm, &RECORDS[6], rpm_of, i32, 19,
+        rows, "RPM of 4 values", Rpm, &RECORDS[6], rpm_of, i32, 19,
         |r, o| o[..r.rpm_values().len()].copy_from_slice(r.rpm_values()),
-        ours::read_rpm, |b: &mut [u8], dest, r: &Rpm| ours::write_rpm(b, dest, r.rpm_source_id, r.rpm_values())
+        Entries::read_rpm, |e: &Entries, b: &mut [u8], dest, r: &Rpm| e.write_rpm(b, dest, r.rpm_source_id, r.rpm_values())
     );
 }
 
-pub fn run(emulated: bool, listing: Option<Listing>) {
-    println!("machine: {}{}", machine(), if emulated { ", emulated: only the ratios say anything" } else { "" });
-    println!("best of {ROUNDS} rounds of each side, in turn; ns\n");
-    println!("| row | the Rust | ours | for each | ours : Rust |\n|---|---|---|---|---|");
+/// One run: a line for each row.
+pub fn once(listing: Option<Listing>) {
     let mut r = Rng::new(42);
-    let typical = gen::typical(&mut r, STREAM);
-    let frames = bodies(&typical);
+    let typical: &'static [u8] = gen::typical(&mut r, STREAM).leak();
+    let frames: &'static [&[u8]] = bodies(typical).leak();
     let mut noise = vec![0; STREAM];
     r.fill(&mut noise);
-    let runs = vec![0xC8; STREAM / 2];
+    let noise: &'static [u8] = noise.leak();
     let mut damaged = vec![];
     for (i, body) in frames.iter().enumerate() {
         let mut f = gen::frame(0xC8, body);
         f[5] ^= if i % 4 == 0 { 0x55 } else { 0 };
         damaged.extend(f);
     }
-    let contiguous =
-        row("typical frames, contiguous", "frame", frames.len(), || stream_rust(&typical, STREAM * 2), || stream_ours(&typical, STREAM * 2));
-    for (name, bytes, piece) in [
-        ("typical frames in 64-byte pieces", &typical, 64),
-        ("typical frames in 16-byte pieces", &typical, 16),
-        ("typical frames in 1-byte pieces", &typical, 1),
-        ("noise, contiguous", &noise, STREAM * 2),
-        ("noise in 16-byte pieces", &noise, 16),
-        ("runs of C8, contiguous", &runs, STREAM * 2),
-        ("each fourth frame damaged, contiguous", &damaged, STREAM * 2),
-    ] {
-        row(name, "byte", bytes.len(), || stream_rust(bytes, piece), || stream_ours(bytes, piece));
-    }
-    let check = row(
-        "check byte of each typical frame",
-        "frame",
-        frames.len(),
-        || check_bytes(&frames, |b| CHECK.checksum(b)),
-        || check_bytes(&frames, |b| ours::checksum(b)),
-    );
-    row("check byte of a long string", "byte", noise.len(), || u64::from(CHECK.checksum(&noise)), || u64::from(ours::checksum(&noise)));
-    record_row_of_each_kind();
-    altitude_rows();
+    let mut rows = Rows(vec![]);
+    let mut stream = |name: &str, unit, count, bytes: &'static [u8], piece| {
+        rows.add(name, unit, count, move || stream_rust(next_rust(), bytes, piece), move |e| stream_ours(e, bytes, piece))
+    };
+    stream(CONTIGUOUS, "frame", frames.len(), typical, WHOLE);
+    stream("typical frames in 64-byte pieces", "byte", typical.len(), typical, 64);
+    stream("typical frames in 16-byte pieces", "byte", typical.len(), typical, 16);
+    stream(BYTES, "byte", typical.len(), typical, 1);
+    stream("noise, contiguous", "byte", noise.len(), noise, WHOLE);
+    stream("noise in 16-byte pieces", "byte", noise.len(), noise, 16);
+    stream("runs of C8, contiguous", "byte", STREAM / 2, vec![0xC8; STREAM / 2].leak(), WHOLE);
+    stream("each fourth frame damaged, contiguous", "byte", damaged.len(), damaged.leak(), WHOLE);
+    rows.add(CHECKS, "frame", frames.len(), || checks_rust(frames), |e| checks_ours(e, frames));
+    rows.add("check byte of a long string", "byte", noise.len(), || checks_rust(&[noise]), |e| checks_ours(e, &[noise]));
+    record_row_of_each_kind(&mut rows);
+    altitude_rows(&mut rows);
+    rows.add(LOOP, "frame", frames.len(), || stream_rust(walk_rust, typical, WHOLE), |e| stream_ours(&walking(e), typical, WHOLE));
+    rows.add(LOOP_BYTES, "byte", typical.len(), || stream_rust(walk_rust, typical, 1), |e| stream_ours(&walking(e), typical, 1));
+    rows.add(FLOOR, "frame", frames.len(), || floor_rust(typical), |e| floor_ours(e, typical));
+    empty_rows(&mut rows);
+    rows.time();
     if let Some(listing) = listing {
         listing_row(&listing);
     }
-    println!(
-        "\nThe contiguous row against the check byte alone over the same frames: ours {:.2} times ours, {:.2} times the faster of the two; the Rust {:.2} times its own.",
-        contiguous.ours / check.ours,
-        contiguous.ours / check.ours.min(check.rust),
-        contiguous.rust / check.rust
-    );
 }
 
 /// Whole programs over a file: typical frames, and some that are damaged and some noise between.
@@ -327,19 +519,14 @@ fn listing_row(listing: &Listing) {
         stream.extend(gen::typical(&mut r, 20_000));
         stream.extend(gen::stream(&mut r, 200));
     }
-    let (mut rust, mut ours) = (f64::MAX, f64::MAX);
-    for _ in 0..7 {
-        let run = listing.run(&stream);
-        assert!(run.rust.1 == run.ours.1, "the two listings differ");
-        rust = rust.min(run.rust.0);
-        ours = ours.min(run.ours.0);
+    let mut best = vec![];
+    for _ in 0..LISTINGS {
+        let runs = listing.run(&stream);
+        assert!(runs.iter().all(|run| run.lines == runs[0].lines), "the listings differ");
+        best.resize(runs.len(), f64::MAX);
+        for (best, run) in best.iter_mut().zip(&runs) {
+            *best = run.seconds.min(*best);
+        }
     }
-    let ns = |seconds: f64| seconds * 1e9 / stream.len() as f64;
-    println!("| listing, whole program, {} MB | {:.2} | {:.2} | byte | {:.2} |", stream.len() / 1_000_000, ns(rust), ns(ours), ours / rust);
-}
-
-fn machine() -> String {
-    let text = std::fs::read_to_string("/proc/cpuinfo").unwrap_or_default();
-    let model = text.lines().find_map(|line| line.strip_prefix("model name")?.split_once(':'));
-    model.map_or_else(|| "unknown".to_string(), |(_, name)| name.trim().to_string())
+    say(&format!("listing, whole program, {} MB", stream.len() / 1_000_000), "byte", stream.len(), &best);
 }

@@ -7,7 +7,7 @@ use uf_crsf::{CrsfParser, CrsfStreamError};
 /// One thing that a host does.
 #[derive(Clone, Copy, Debug, PartialEq)]
 pub enum Op {
-    /// A call on so many of the unread bytes, or on all where there are fewer.
+    /// A call on that many of the unread bytes, or on all where there are fewer.
     Call(usize),
     /// A reset: what is held is forgotten on both sides.
     Reset,
@@ -168,7 +168,7 @@ impl<'a> Both<'a> {
         Ok(())
     }
 
-    /// Pieces of so many bytes, and a call on nothing at the end.
+    /// Pieces of that many bytes, and a call on nothing at the end.
     fn pieces(&mut self, size: usize) -> Result<(), Difference> {
         let mut end = 0;
         while end < self.bytes.len() {

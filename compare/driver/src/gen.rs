@@ -39,7 +39,7 @@ impl Rng {
     }
 }
 
-/// Document 01's addresses.
+/// The listed addresses (RULES 3).
 pub const ADDRESSES: [u8; 24] = [
     0x00, 0x0E, 0x10, 0x12, 0x13, 0x14, 0x80, 0x90, 0x91, 0x92, 0x93, 0x94, 0x95, 0x96, 0x97, 0xC0, 0xC2, 0xC4, 0xC8, 0xCC, 0xCE, 0xEA, 0xEC, 0xEE,
 ];
@@ -146,11 +146,13 @@ pub fn stream(r: &mut Rng, len: usize) -> Vec<u8> {
     s
 }
 
-/// What a receiver sends: mostly channels (26 bytes), then link statistics, GPS and battery, with random fields.
+/// The types and payloads of what a receiver sends: mostly channels (26 bytes), then link statistics, GPS and battery.
+pub const TYPICAL: [(u8, usize); 8] = [(0x16, 22), (0x16, 22), (0x14, 10), (0x16, 22), (0x16, 22), (0x02, 15), (0x16, 22), (0x08, 8)];
+
+/// Such frames with random fields, at least `len` bytes.
 pub fn typical(r: &mut Rng, len: usize) -> Vec<u8> {
-    const KINDS: [(u8, usize); 8] = [(0x16, 22), (0x16, 22), (0x14, 10), (0x16, 22), (0x16, 22), (0x02, 15), (0x16, 22), (0x08, 8)];
     let mut s = vec![];
-    for (kind, payload) in KINDS.iter().cycle() {
+    for (kind, payload) in TYPICAL.iter().cycle() {
         if s.len() >= len {
             break;
         }

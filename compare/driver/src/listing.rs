@@ -4,39 +4,54 @@ use crate::report::Report;
 use std::fs::{self, File};
 use std::path::{Path, PathBuf};
 use std::process::Command;
-use std::time::Instant;
 
 /// Each program is a command with its words; beside `file` stand what they read and what they write.
 pub struct Listing {
     pub rust: Vec<String>,
+    /// The earlier one, where it is timed.
+    pub before: Option<Vec<String>>,
     pub ours: Vec<String>,
     pub file: PathBuf,
 }
 
-/// Seconds and lines of each program.
+/// What a program took, in seconds of a processor, its own and the system's for it, and what it wrote.
 pub struct Run {
-    pub rust: (f64, Vec<u8>),
-    pub ours: (f64, Vec<u8>),
+    pub seconds: f64,
+    pub lines: Vec<u8>,
+}
+
+/// Seconds of a processor that the programs took that were started here and have ended. Other work on the machine is not in it.
+fn taken() -> f64 {
+    // The system's own layout: user and system time, each as seconds and microseconds, and fourteen counts.
+    extern "C" {
+        fn getrusage(who: i32, usage: *mut [i64; 18]) -> i32;
+    }
+    const CHILDREN: i32 = -1;
+    let mut usage = [0; 18];
+    assert_eq!(unsafe { getrusage(CHILDREN, &mut usage) }, 0, "the system tells what a program took");
+    (usage[0] + usage[2]) as f64 + (usage[1] + usage[3]) as f64 * 1e-6
 }
 
 impl Listing {
-    fn list(&self, command: &[String], output: &Path) -> (f64, Vec<u8>) {
+    fn list(&self, command: &[String], output: &Path) -> Run {
         let input = File::open(&self.file).expect("the stream was written");
         let file = File::create(output).expect("the listing can be written");
-        let t = Instant::now();
+        let before = taken();
         let status = Command::new(&command[0]).args(&command[1..]).stdin(input).stdout(file).status();
-        let seconds = t.elapsed().as_secs_f64();
         assert!(status.expect("the listing program starts").success(), "{command:?} failed");
+        let seconds = taken() - before;
         let lines = fs::read(output).expect("the listing was written");
         let _ = fs::remove_file(output);
-        (seconds, lines)
+        Run { seconds, lines }
     }
 
-    pub fn run(&self, stream: &[u8]) -> Run {
+    /// The Rust's, the one before where there is one, and ours.
+    pub fn run(&self, stream: &[u8]) -> Vec<Run> {
         fs::write(&self.file, stream).expect("the stream can be written");
-        let run = Run { rust: self.list(&self.rust, &self.file.with_extension("rust")), ours: self.list(&self.ours, &self.file.with_extension("ours")) };
+        let commands = std::iter::once(&self.rust).chain(&self.before).chain(std::iter::once(&self.ours));
+        let runs = commands.map(|command| self.list(command, &self.file.with_extension("listing"))).collect();
         let _ = fs::remove_file(&self.file);
-        run
+        runs
     }
 
     /// Compares the lines.
@@ -54,8 +69,8 @@ impl Listing {
                 gen::typical(&mut r, 1_000_000),
             ];
             for stream in streams {
-                let run = self.run(&stream);
-                let (rust, ours) = (String::from_utf8_lossy(&run.rust.1), String::from_utf8_lossy(&run.ours.1));
+                let runs = self.run(&stream);
+                let (rust, ours) = (String::from_utf8_lossy(&runs[0].lines), String::from_utf8_lossy(&runs[runs.len() - 1].lines));
                 let mut lines = (rust.split('\n'), ours.split('\n'));
                 let mut n = 0;
                 loop {

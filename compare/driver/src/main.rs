@@ -3,6 +3,7 @@ mod bench;
 mod framing;
 mod gen;
 mod listing;
+mod medians;
 mod ours;
 mod queries;
 mod record;
@@ -19,22 +20,36 @@ struct Options {
     root: std::path::PathBuf,
     /// Whether both sides are timed, and not compared.
     bench: bool,
+    /// One run of the timing, by itself.
+    once: bool,
     /// Where the sample of the Rust's answers is written, and nothing is compared.
     record: Option<String>,
     /// The emulator's command, where one runs this.
     emulator: Vec<String>,
     /// The port's listing program.
     list: Option<String>,
+    /// An earlier one, to be timed too.
+    before_list: Option<String>,
 }
 
-const USAGE: &str = "compare/run [--seed N] [--bytes N] [--bench] [--record FILE] [--rust DIR] [--archive DIR]";
+const USAGE: &str = "compare/run [--seed N] [--bytes N] [--bench [--before DIR]] [--record FILE] [--rust DIR] [--archive DIR]";
 
 fn number(text: &str) -> u64 {
     text.parse::<f64>().ok().filter(|n| *n >= 0.0).unwrap_or_else(|| panic!("{text} is no number; usage: {USAGE}")) as u64
 }
 
 fn options() -> Options {
-    let mut o = Options { seed: 1, bytes: 20_000_000, root: ".".into(), bench: false, record: None, emulator: vec![], list: None };
+    let mut o = Options {
+        seed: 1,
+        bytes: 20_000_000,
+        root: ".".into(),
+        bench: false,
+        once: false,
+        record: None,
+        emulator: vec![],
+        list: None,
+        before_list: None,
+    };
     let mut words = std::env::args().skip(1);
     while let Some(word) = words.next() {
         let mut next = || words.next().unwrap_or_else(|| panic!("{word} wants a value; usage: {USAGE}"));
@@ -46,9 +61,11 @@ fn options() -> Options {
             "--bytes" => o.bytes = number(&next()),
             "--root" => o.root = next().into(),
             "--bench" => o.bench = true,
+            "--once" => o.once = true,
             "--record" => o.record = Some(next()),
             "--emulator" => o.emulator = next().split(' ').map(String::from).collect(),
             "--list" => o.list = Some(next()),
+            "--before-list" => o.before_list = Some(next()),
             other => panic!("{other}? usage: {USAGE}"),
         }
     }
@@ -61,16 +78,26 @@ fn listing(o: &Options) -> Option<Listing> {
     let beside = std::env::current_exe().ok()?.with_file_name("rust_list");
     Some(Listing {
         rust: command(beside.to_str()?.to_string()),
+        before: o.before_list.clone().map(command),
         ours: command(o.list.clone()?),
         file: o.root.join("target/compare/stream"),
     })
 }
 
+/// The command that makes one run of the timing.
+fn this_program_once(o: &Options) -> Vec<String> {
+    let this = std::env::current_exe().expect("this program has a name").to_string_lossy().into_owned();
+    [o.emulator.clone(), vec![this], std::env::args().skip(1).collect(), vec!["--once".to_string()]].concat()
+}
+
 fn main() {
     let o = options();
     let how = if o.emulator.is_empty() { "" } else { " (emulated)" };
+    if o.once {
+        return bench::once(listing(&o));
+    }
     if o.bench {
-        return bench::run(!o.emulator.is_empty(), listing(&o));
+        return medians::run(&this_program_once(&o), !o.emulator.is_empty());
     }
     if let Some(file) = &o.record {
         let (sample, cases) = record::sample(o.seed);

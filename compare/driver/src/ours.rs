@@ -1,4 +1,4 @@
-//! The port's host entries, each behind a safe function that lends slices.
+//! The port's host entries, each behind a safe function that lends slices; and the same of an earlier archive, where one is timed beside it.
 use std::fmt;
 use uf_crsf::packets::{BaroAltitude, Battery, Gps, GpsExtended, LinkStatistics};
 
@@ -55,174 +55,152 @@ impl Answer {
     }
 }
 
-mod entry {
-    use super::Answer;
-    extern "C" {
-        pub fn crsf_next_raw_packet(state: *mut u8, state_len: usize, input: *const u8, input_len: usize) -> Answer;
-        pub fn crsf_reset(state: *mut u8, state_len: usize) -> Answer;
-        pub fn crsf_save(state: *const u8, state_len: usize, out: *mut u8, out_len: usize) -> Answer;
-        pub fn crsf_restore(state: *mut u8, state_len: usize, form: *const u8, form_len: usize) -> Answer;
-        pub fn crsf_held(state: *const u8, state_len: usize) -> Answer;
-        pub fn crsf_is_address(byte: u8) -> bool;
-        pub fn crsf_header_of(packet_type: u8) -> u8;
-        pub fn crsf_checksum(bytes: *const u8, len: usize) -> u8;
-        pub fn crsf_write_link_statistics(
-            b: *mut u8, n: usize, dest: u8, rssi_1: u8, rssi_2: u8, quality: u8, snr: i8, antenna: u8, rf_mode: u8, tx_power: u8, down_rssi: u8,
-            down_quality: u8, down_snr: i8,
-        ) -> Answer;
-        pub fn crsf_write_rc_channels_packed(b: *mut u8, n: usize, dest: u8, channels: *const u16, count: usize) -> Answer;
-        pub fn crsf_write_gps(
-            b: *mut u8, n: usize, dest: u8, latitude: i32, longitude: i32, groundspeed: u16, heading: u16, altitude: u16, satellites: u8,
-        ) -> Answer;
-        pub fn crsf_write_gps_extended(
-            b: *mut u8, n: usize, dest: u8, fix_type: u8, n_speed: i16, e_speed: i16, v_speed: i16, h_speed_acc: i16, track_acc: i16,
-            alt_ellipsoid: i16, h_acc: i16, v_acc: i16, reserved: u8, h_dop: u8, v_dop: u8,
-        ) -> Answer;
-        pub fn crsf_write_battery(b: *mut u8, n: usize, dest: u8, voltage: i16, current: i16, capacity_used: u32, remaining: u8, id: u8) -> Answer;
-        pub fn crsf_write_baro_altitude(b: *mut u8, n: usize, dest: u8, altitude_packed: u16, vertical_speed_packed: i8) -> Answer;
-        pub fn crsf_write_rpm(b: *mut u8, n: usize, dest: u8, rpm_source_id: u8, values: *const i32, count: usize) -> Answer;
-        pub fn crsf_read_link_statistics(p: *const u8, n: usize, out: *mut i32, out_len: usize) -> Answer;
-        pub fn crsf_read_rc_channels_packed(p: *const u8, n: usize, out: *mut u16, out_len: usize) -> Answer;
-        pub fn crsf_read_gps(p: *const u8, n: usize, out: *mut i32, out_len: usize) -> Answer;
-        pub fn crsf_read_gps_extended(p: *const u8, n: usize, out: *mut i32, out_len: usize) -> Answer;
-        pub fn crsf_read_battery(p: *const u8, n: usize, out: *mut i32, out_len: usize) -> Answer;
-        pub fn crsf_read_baro_altitude(p: *const u8, n: usize, out: *mut i32, out_len: usize) -> Answer;
-        pub fn crsf_read_rpm(p: *const u8, n: usize, out: *mut i32, out_len: usize) -> Answer;
-        pub fn crsf_pack_altitude(decimetres: i32) -> u16;
-        pub fn crsf_baro_decimetres(packed: u16) -> i32;
-        pub fn crsf_gps_metres(raw: u16) -> i32;
+/// A copy of which the compiler knows nothing.
+#[inline(always)]
+pub fn kept<T: Copy>(place: &T) -> T {
+    #[inline(never)]
+    fn hidden<T>(place: &T) -> &T {
+        std::hint::black_box(place)
     }
+    *hidden(place)
 }
 
-// Each entry reads and writes only the slices that it is lent, which is proved of it (docs/PROMISES.md).
+/// Declares the entries of both archives and a table of pointers to each.
+macro_rules! entries {
+    ($(fn $name:ident($($place:ident: $kind:ty),* $(,)?) -> $answer:ty;)*) => {
+        /// Pointers to an archive's entries.
+        #[derive(Clone, Copy)]
+        pub struct Entries {
+            $(pub $name: unsafe extern "C" fn($($kind),*) -> $answer,)*
+        }
 
-#[inline]
-pub fn next_raw_packet(state: &mut [u8], input: &[u8]) -> Answer {
-    unsafe { entry::crsf_next_raw_packet(state.as_mut_ptr(), state.len(), input.as_ptr(), input.len()) }
+        impl Entries {
+            /// The same pointers, of which the compiler knows nothing: a call by one of them stays a call through a register.
+            #[inline(always)]
+            pub fn kept(&self) -> Entries {
+                kept(self)
+            }
+        }
+
+        /// libhost.a.
+        pub static NOW: Entries = {
+            extern "C" {
+                $(fn $name($($place: $kind),*) -> $answer;)*
+            }
+            Entries { $($name,)* }
+        };
+
+        /// The archive that `compare/run --before` names, its symbols with `before_` in front.
+        #[cfg(before)]
+        pub static BEFORE: Entries = {
+            extern "C" {
+                $(
+                    #[link_name = concat!("before_", stringify!($name))]
+                    fn $name($($place: $kind),*) -> $answer;
+                )*
+            }
+            Entries { $($name,)* }
+        };
+    };
 }
 
-pub fn reset(state: &mut [u8]) -> Answer {
-    unsafe { entry::crsf_reset(state.as_mut_ptr(), state.len()) }
+entries! {
+    fn crsf_next_raw_packet(state: *mut u8, state_len: usize, input: *const u8, input_len: usize) -> Answer;
+    fn crsf_reset(state: *mut u8, state_len: usize) -> Answer;
+    fn crsf_save(state: *const u8, state_len: usize, out: *mut u8, out_len: usize) -> Answer;
+    fn crsf_restore(state: *mut u8, state_len: usize, form: *const u8, form_len: usize) -> Answer;
+    fn crsf_held(state: *const u8, state_len: usize) -> Answer;
+    fn crsf_is_address(byte: u8) -> bool;
+    fn crsf_header_of(packet_type: u8) -> u8;
+    fn crsf_checksum(bytes: *const u8, len: usize) -> u8;
+    fn crsf_write_link_statistics(
+        b: *mut u8, n: usize, dest: u8, rssi_1: u8, rssi_2: u8, quality: u8, snr: i8, antenna: u8, rf_mode: u8, tx_power: u8, down_rssi: u8,
+        down_quality: u8, down_snr: i8,
+    ) -> Answer;
+    fn crsf_write_rc_channels_packed(b: *mut u8, n: usize, dest: u8, channels: *const u16, count: usize) -> Answer;
+    fn crsf_write_gps(
+        b: *mut u8, n: usize, dest: u8, latitude: i32, longitude: i32, groundspeed: u16, heading: u16, altitude: u16, satellites: u8,
+    ) -> Answer;
+    fn crsf_write_gps_extended(
+        b: *mut u8, n: usize, dest: u8, fix_type: u8, n_speed: i16, e_speed: i16, v_speed: i16, h_speed_acc: i16, track_acc: i16,
+        alt_ellipsoid: i16, h_acc: i16, v_acc: i16, reserved: u8, h_dop: u8, v_dop: u8,
+    ) -> Answer;
+    fn crsf_write_battery(b: *mut u8, n: usize, dest: u8, voltage: i16, current: i16, capacity_used: u32, remaining: u8, id: u8) -> Answer;
+    fn crsf_write_baro_altitude(b: *mut u8, n: usize, dest: u8, altitude_packed: u16, vertical_speed_packed: i8) -> Answer;
+    fn crsf_write_rpm(b: *mut u8, n: usize, dest: u8, rpm_source_id: u8, values: *const i32, count: usize) -> Answer;
+    fn crsf_read_link_statistics(p: *const u8, n: usize, out: *mut i32, out_len: usize) -> Answer;
+    fn crsf_read_rc_channels_packed(p: *const u8, n: usize, out: *mut u16, out_len: usize) -> Answer;
+    fn crsf_read_gps(p: *const u8, n: usize, out: *mut i32, out_len: usize) -> Answer;
+    fn crsf_read_gps_extended(p: *const u8, n: usize, out: *mut i32, out_len: usize) -> Answer;
+    fn crsf_read_battery(p: *const u8, n: usize, out: *mut i32, out_len: usize) -> Answer;
+    fn crsf_read_baro_altitude(p: *const u8, n: usize, out: *mut i32, out_len: usize) -> Answer;
+    fn crsf_read_rpm(p: *const u8, n: usize, out: *mut i32, out_len: usize) -> Answer;
+    fn crsf_pack_altitude(decimetres: i32) -> u16;
+    fn crsf_baro_decimetres(packed: u16) -> i32;
+    fn crsf_gps_metres(raw: u16) -> i32;
 }
 
-pub fn save(state: &[u8], out: &mut [u8]) -> Answer {
-    unsafe { entry::crsf_save(state.as_ptr(), state.len(), out.as_mut_ptr(), out.len()) }
+/// A safe function for each entry: a method by the table's pointer, and a function that calls libhost.a's.
+macro_rules! lent {
+    ($($(#[$about:meta])* fn $name:ident($($place:ident: $kind:ty),*) -> $answer:ty = $entry:ident($($value:expr),* $(,)?);)*) => {
+        // Each entry reads and writes only the slices that it is lent, which is proved of it (docs/PROMISES.md).
+        impl Entries {
+            $(
+                $(#[$about])*
+                #[inline(always)]
+                pub fn $name(&self, $($place: $kind),*) -> $answer {
+                    unsafe { (self.$entry)($($value),*) }
+                }
+            )*
+        }
+        $(
+            $(#[$about])*
+            #[inline]
+            pub fn $name($($place: $kind),*) -> $answer {
+                NOW.$name($($place),*)
+            }
+        )*
+    };
 }
 
-pub fn restore(state: &mut [u8], form: &[u8]) -> Answer {
-    unsafe { entry::crsf_restore(state.as_mut_ptr(), state.len(), form.as_ptr(), form.len()) }
-}
-
-pub fn held(state: &[u8]) -> Answer {
-    unsafe { entry::crsf_held(state.as_ptr(), state.len()) }
-}
-
-pub fn is_address(byte: u8) -> bool {
-    unsafe { entry::crsf_is_address(byte) }
-}
-
-/// 0 unlisted, 1 short, 2 extended.
-pub fn header_of(packet_type: u8) -> u8 {
-    unsafe { entry::crsf_header_of(packet_type) }
-}
-
-#[inline]
-pub fn checksum(bytes: &[u8]) -> u8 {
-    unsafe { entry::crsf_checksum(bytes.as_ptr(), bytes.len()) }
-}
-
-#[inline]
-pub fn write_link_statistics(b: &mut [u8], dest: u8, r: &LinkStatistics) -> Answer {
-    unsafe {
-        entry::crsf_write_link_statistics(
-            b.as_mut_ptr(), b.len(), dest, r.uplink_rssi_1, r.uplink_rssi_2, r.uplink_link_quality, r.uplink_snr, r.active_antenna, r.rf_mode,
-            r.uplink_tx_power, r.downlink_rssi, r.downlink_link_quality, r.downlink_snr,
-        )
-    }
-}
-
-#[inline]
-pub fn write_rc_channels_packed(b: &mut [u8], dest: u8, channels: &[u16]) -> Answer {
-    unsafe { entry::crsf_write_rc_channels_packed(b.as_mut_ptr(), b.len(), dest, channels.as_ptr(), channels.len()) }
-}
-
-#[inline]
-pub fn write_gps(b: &mut [u8], dest: u8, r: &Gps) -> Answer {
-    unsafe {
-        entry::crsf_write_gps(b.as_mut_ptr(), b.len(), dest, r.latitude, r.longitude, r.groundspeed, r.heading, r.altitude, r.satellites)
-    }
-}
-
-#[inline]
-pub fn write_gps_extended(b: &mut [u8], dest: u8, r: &GpsExtended) -> Answer {
-    unsafe {
-        entry::crsf_write_gps_extended(
-            b.as_mut_ptr(), b.len(), dest, r.fix_type, r.n_speed, r.e_speed, r.v_speed, r.h_speed_acc, r.track_acc, r.alt_ellipsoid, r.h_acc,
-            r.v_acc, r.reserved, r.h_dop, r.v_dop,
-        )
-    }
-}
-
-#[inline]
-pub fn write_battery(b: &mut [u8], dest: u8, r: &Battery) -> Answer {
-    unsafe { entry::crsf_write_battery(b.as_mut_ptr(), b.len(), dest, r.voltage, r.current, r.capacity_used, r.remaining, r.id) }
-}
-
-#[inline]
-pub fn write_baro_altitude(b: &mut [u8], dest: u8, r: &BaroAltitude) -> Answer {
-    unsafe { entry::crsf_write_baro_altitude(b.as_mut_ptr(), b.len(), dest, r.altitude_packed, r.vertical_speed_packed) }
-}
-
-#[inline]
-pub fn write_rpm(b: &mut [u8], dest: u8, id: u8, values: &[i32]) -> Answer {
-    unsafe { entry::crsf_write_rpm(b.as_mut_ptr(), b.len(), dest, id, values.as_ptr(), values.len()) }
-}
-
-#[inline]
-pub fn read_link_statistics(p: &[u8], out: &mut [i32]) -> Answer {
-    unsafe { entry::crsf_read_link_statistics(p.as_ptr(), p.len(), out.as_mut_ptr(), out.len()) }
-}
-
-#[inline]
-pub fn read_rc_channels_packed(p: &[u8], out: &mut [u16]) -> Answer {
-    unsafe { entry::crsf_read_rc_channels_packed(p.as_ptr(), p.len(), out.as_mut_ptr(), out.len()) }
-}
-
-#[inline]
-pub fn read_gps(p: &[u8], out: &mut [i32]) -> Answer {
-    unsafe { entry::crsf_read_gps(p.as_ptr(), p.len(), out.as_mut_ptr(), out.len()) }
-}
-
-#[inline]
-pub fn read_gps_extended(p: &[u8], out: &mut [i32]) -> Answer {
-    unsafe { entry::crsf_read_gps_extended(p.as_ptr(), p.len(), out.as_mut_ptr(), out.len()) }
-}
-
-#[inline]
-pub fn read_battery(p: &[u8], out: &mut [i32]) -> Answer {
-    unsafe { entry::crsf_read_battery(p.as_ptr(), p.len(), out.as_mut_ptr(), out.len()) }
-}
-
-#[inline]
-pub fn read_baro_altitude(p: &[u8], out: &mut [i32]) -> Answer {
-    unsafe { entry::crsf_read_baro_altitude(p.as_ptr(), p.len(), out.as_mut_ptr(), out.len()) }
-}
-
-#[inline]
-pub fn read_rpm(p: &[u8], out: &mut [i32]) -> Answer {
-    unsafe { entry::crsf_read_rpm(p.as_ptr(), p.len(), out.as_mut_ptr(), out.len()) }
-}
-
-#[inline]
-pub fn pack_altitude(decimetres: i32) -> u16 {
-    unsafe { entry::crsf_pack_altitude(decimetres) }
-}
-
-#[inline]
-pub fn baro_decimetres(packed: u16) -> i32 {
-    unsafe { entry::crsf_baro_decimetres(packed) }
-}
-
-pub fn gps_metres(raw: u16) -> i32 {
-    unsafe { entry::crsf_gps_metres(raw) }
+lent! {
+    fn next_raw_packet(state: &mut [u8], input: &[u8]) -> Answer =
+        crsf_next_raw_packet(state.as_mut_ptr(), state.len(), input.as_ptr(), input.len());
+    fn reset(state: &mut [u8]) -> Answer = crsf_reset(state.as_mut_ptr(), state.len());
+    fn save(state: &[u8], out: &mut [u8]) -> Answer = crsf_save(state.as_ptr(), state.len(), out.as_mut_ptr(), out.len());
+    fn restore(state: &mut [u8], form: &[u8]) -> Answer = crsf_restore(state.as_mut_ptr(), state.len(), form.as_ptr(), form.len());
+    fn held(state: &[u8]) -> Answer = crsf_held(state.as_ptr(), state.len());
+    fn is_address(byte: u8) -> bool = crsf_is_address(byte);
+    /// 0 unlisted, 1 short, 2 extended.
+    fn header_of(packet_type: u8) -> u8 = crsf_header_of(packet_type);
+    fn checksum(bytes: &[u8]) -> u8 = crsf_checksum(bytes.as_ptr(), bytes.len());
+    fn write_link_statistics(b: &mut [u8], dest: u8, r: &LinkStatistics) -> Answer = crsf_write_link_statistics(
+        b.as_mut_ptr(), b.len(), dest, r.uplink_rssi_1, r.uplink_rssi_2, r.uplink_link_quality, r.uplink_snr, r.active_antenna, r.rf_mode,
+        r.uplink_tx_power, r.downlink_rssi, r.downlink_link_quality, r.downlink_snr,
+    );
+    fn write_rc_channels_packed(b: &mut [u8], dest: u8, channels: &[u16]) -> Answer =
+        crsf_write_rc_channels_packed(b.as_mut_ptr(), b.len(), dest, channels.as_ptr(), channels.len());
+    fn write_gps(b: &mut [u8], dest: u8, r: &Gps) -> Answer =
+        crsf_write_gps(b.as_mut_ptr(), b.len(), dest, r.latitude, r.longitude, r.groundspeed, r.heading, r.altitude, r.satellites);
+    fn write_gps_extended(b: &mut [u8], dest: u8, r: &GpsExtended) -> Answer = crsf_write_gps_extended(
+        b.as_mut_ptr(), b.len(), dest, r.fix_type, r.n_speed, r.e_speed, r.v_speed, r.h_speed_acc, r.track_acc, r.alt_ellipsoid, r.h_acc, r.v_acc,
+        r.reserved, r.h_dop, r.v_dop,
+    );
+    fn write_battery(b: &mut [u8], dest: u8, r: &Battery) -> Answer =
+        crsf_write_battery(b.as_mut_ptr(), b.len(), dest, r.voltage, r.current, r.capacity_used, r.remaining, r.id);
+    fn write_baro_altitude(b: &mut [u8], dest: u8, r: &BaroAltitude) -> Answer =
+        crsf_write_baro_altitude(b.as_mut_ptr(), b.len(), dest, r.altitude_packed, r.vertical_speed_packed);
+    fn write_rpm(b: &mut [u8], dest: u8, id: u8, values: &[i32]) -> Answer =
+        crsf_write_rpm(b.as_mut_ptr(), b.len(), dest, id, values.as_ptr(), values.len());
+    fn read_link_statistics(p: &[u8], out: &mut [i32]) -> Answer = crsf_read_link_statistics(p.as_ptr(), p.len(), out.as_mut_ptr(), out.len());
+    fn read_rc_channels_packed(p: &[u8], out: &mut [u16]) -> Answer =
+        crsf_read_rc_channels_packed(p.as_ptr(), p.len(), out.as_mut_ptr(), out.len());
+    fn read_gps(p: &[u8], out: &mut [i32]) -> Answer = crsf_read_gps(p.as_ptr(), p.len(), out.as_mut_ptr(), out.len());
+    fn read_gps_extended(p: &[u8], out: &mut [i32]) -> Answer = crsf_read_gps_extended(p.as_ptr(), p.len(), out.as_mut_ptr(), out.len());
+    fn read_battery(p: &[u8], out: &mut [i32]) -> Answer = crsf_read_battery(p.as_ptr(), p.len(), out.as_mut_ptr(), out.len());
+    fn read_baro_altitude(p: &[u8], out: &mut [i32]) -> Answer = crsf_read_baro_altitude(p.as_ptr(), p.len(), out.as_mut_ptr(), out.len());
+    fn read_rpm(p: &[u8], out: &mut [i32]) -> Answer = crsf_read_rpm(p.as_ptr(), p.len(), out.as_mut_ptr(), out.len());
+    fn pack_altitude(decimetres: i32) -> u16 = crsf_pack_altitude(decimetres);
+    fn baro_decimetres(packed: u16) -> i32 = crsf_baro_decimetres(packed);
+    fn gps_metres(raw: u16) -> i32 = crsf_gps_metres(raw);
 }

@@ -1,4 +1,4 @@
-//! What needs no stream: addresses, header kinds, the check byte, altitudes; and what document 01 adds to the Rust.
+//! What needs no stream: addresses, header kinds, the check byte, altitudes; and what the rules add to the Rust.
 use crate::gen::{hex, Rng};
 use crate::ours::{self, Answer, State};
 use crate::report::Report;
@@ -65,7 +65,7 @@ fn altitudes(report: &mut Report, r: &mut Rng) {
             f.same(rust, ours::baro_decimetres(packed), || format!("packed {packed:04X}"));
         }
     });
-    report.family("GPS metres: every word, by document 01 alone", |f| {
+    report.family("GPS metres: every word, by RULES 11 alone", |f| {
         for raw in 0..=u16::MAX {
             f.same(i32::from(raw) - 1000, ours::gps_metres(raw), || format!("metres of {raw}"));
         }
@@ -74,7 +74,7 @@ fn altitudes(report: &mut Report, r: &mut Rng) {
 
 /// Refusal 8, which the Rust's types rule out: nothing is changed.
 fn bad_states(report: &mut Report, r: &mut Rng) {
-    report.family("bad states and saved forms: by document 01 alone", |f| {
+    report.family("bad states and saved forms: by RULES 9 and 14 alone", |f| {
         let refused = Answer::refusal(ours::BAD_STATE);
         for start in 0..=255u8 {
             for end in 0..=255u8 {

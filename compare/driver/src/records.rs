@@ -211,7 +211,7 @@ pub fn baro_altitude(f: &[i64]) -> BaroAltitude {
     BaroAltitude { altitude_packed: f[0] as u16, vertical_speed_packed: f[1] as i8 }
 }
 
-/// Document 01's number for a refusal of the Rust's records.
+/// The number of a refusal that the Rust's records give (RULES 1).
 pub fn number_of(refusal: CrsfParsingError) -> u8 {
     match refusal {
         CrsfParsingError::InvalidPayloadLength => ours::INVALID_PAYLOAD_LENGTH,
@@ -225,7 +225,7 @@ impl Record {
         self.name == "RPM"
     }
 
-    /// What both sides write of these fields into a buffer of so many bytes, amid others. None where all agree.
+    /// What both sides write of these fields into a buffer of that many bytes, amid others. None where all agree.
     fn write_differs(&self, fields: &[i64], dest: u8, len: usize, fill: u8) -> Option<String> {
         let mut rust = [fill; 80];
         for (i, b) in rust.iter_mut().enumerate() {
@@ -448,7 +448,7 @@ pub fn compare(report: &mut Report, seed: u64, random: u64) {
     beyond(report);
 }
 
-/// What the Rust's own types rule out or get wrong, and document 01 decides: channels above 2047, too few places to read into.
+/// What the Rust's own types rule out or get wrong, and the rules decide: channels above 2047 (RULES 10), too few places to read into (RULES 14).
 fn beyond(report: &mut Report) {
     let spills = report.lists("channel 0 set to 2048, the others 0");
     report.family("channels above 2047: the Rust lets them spill, ours refuses", |family| {
@@ -460,8 +460,8 @@ fn beyond(report: &mut Report) {
                     fields[channel] = value;
                     let mut buffer = [0x5A; 40];
                     let got = (record.write_ours)(&fields, 0xC8, &mut buffer[..len]);
-                    let by_01 = Answer { number: ours::CHANNEL_RANGE, first: channel as u8, ..Answer::default() };
-                    family.same((by_01, [0x5A; 40]), (got, buffer), || format!("channel {channel} at {value} in {len} bytes, by document 01"));
+                    let by_rules = Answer { number: ours::CHANNEL_RANGE, first: channel as u8, ..Answer::default() };
+                    family.same((by_rules, [0x5A; 40]), (got, buffer), || format!("channel {channel} at {value} in {len} bytes, by RULES 10"));
                     if let Some(told) = record.write_differs(&fields, 0xC8, len, 0x5A) {
                         if spills {
                             family.differs_as_listed();
@@ -473,7 +473,7 @@ fn beyond(report: &mut Report) {
             }
         }
     });
-    report.family("places to read into, 0 to 24: by document 01 alone", |family| {
+    report.family("places to read into, 0 to 24: by RULES 14 alone", |family| {
         for record in &RECORDS {
             for (lent, len) in (0..=PLACES).flat_map(|lent| [0, 2, 3, 8, 9, 10, 15, 20, 22, 30, 58, 60, 61].map(|len| (lent, len))) {
                 let payload: Vec<u8> = (0..len).map(|i| (i * 29 + 131) as u8).collect();

@@ -12,7 +12,7 @@ pub struct Family {
 }
 
 impl Family {
-    /// So many answers were compared.
+    /// That many answers were compared.
     pub fn compared(&mut self, answers: u64) {
         self.compared += answers;
     }

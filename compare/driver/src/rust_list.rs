@@ -1,4 +1,4 @@
-//! The listing over the Rust original: standard input's answers, a line for each, as document 01 words them.
+//! The listing over the Rust original: standard input's answers, a line for each, in the listing's words (RULES 13).
 use std::io::{self, Read, Write};
 use uf_crsf::{CrsfParser, CrsfStreamError};
 

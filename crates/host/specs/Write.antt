@@ -54,7 +54,8 @@ gpsFrom latitude longitude groundspeed heading altitude satellites = record {
 }
 
 abbrev pub gpsExtendedFrom : ℕ → ℤ → ℤ → ℤ → ℤ → ℤ → ℤ → ℤ → ℤ → ℕ → ℕ → ℕ → GpsExtended
-gpsExtendedFrom «fix_type» «n_speed» «e_speed» «v_speed» «h_speed_acc» «track_acc» «alt_ellipsoid» «h_acc» «v_acc» reserved «h_dop» «v_dop» = record {
+gpsExtendedFrom «fix_type» «n_speed» «e_speed» «v_speed» «h_speed_acc» «track_acc» «alt_ellipsoid» «h_acc» «v_acc»
+    reserved «h_dop» «v_dop» = record {
   «fix_type» = «fix_type»;
   «n_speed» = «n_speed»;
   «e_speed» = «e_speed»;

@@ -1,5 +1,5 @@
-// Readers of payloads: a record's numbers, in the order of its fields, at the front of a lent slice. A payload that is refused comes first, then a slice that
-// is too short; nothing is written then.
+// Readers of payloads: a record's numbers, in the order of its fields, at the front of a lent slice. A payload that is too short is refused first,
+// then a slice that is too short; nothing is written then.
 use channels::RcChannelsPacked;
 use host_answer::answer::refuse;
 use host_records::give_baro_altitude;

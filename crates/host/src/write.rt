@@ -1,5 +1,5 @@
-// Writers of whole frames: a record's numbers, each as a parameter of its own, and the frame's address. A bad address is refused first, then a record that
-// can't be written, then a buffer that is too short; nothing is written then.
+// Writers of whole frames: a record's numbers, each as a parameter of its own, and the frame's address. A bad address is refused first, then a
+// record that can't be written, then a buffer that is too short; nothing is written then.
 use channels::RcChannelsPacked;
 use host_answer::written::answer_written;
 use layout::ReadAnswer;
@@ -72,7 +72,8 @@ pub extern "C" fn crsf_write_gps(
     altitude: u16,
     satellites: u8,
 ) -> u64
-    ensures { λ r. ⌜ (r, now (buffer .exit)) ≡ writes dest gpsType (gpsImage (gpsFrom latitude longitude groundspeed heading altitude satellites)) (now (buffer .entry)) ⌝ }
+    ensures { λ r. ⌜ (r, now (buffer .exit)) ≡ writes dest gpsType (gpsImage
+        (gpsFrom latitude longitude groundspeed heading altitude satellites)) (now (buffer .entry)) ⌝ }
 {
     answer_written(frames::write_gps(
         buffer,
@@ -105,7 +106,9 @@ pub extern "C" fn crsf_write_gps_extended(
     h_dop: u8,
     v_dop: u8,
 ) -> u64
-    ensures { λ r. ⌜ (r, now (buffer .exit)) ≡ writes dest gpsExtendedType (gpsExtendedImage (gpsExtendedFrom «fix_type» «n_speed» «e_speed» «v_speed» «h_speed_acc» «track_acc» «alt_ellipsoid» «h_acc» «v_acc» reserved «h_dop» «v_dop»)) (now (buffer .entry)) ⌝ }
+    ensures { λ r. ⌜ (r, now (buffer .exit)) ≡ writes dest gpsExtendedType (gpsExtendedImage
+        (gpsExtendedFrom «fix_type» «n_speed» «e_speed» «v_speed» «h_speed_acc» «track_acc» «alt_ellipsoid» «h_acc» «v_acc»
+        reserved «h_dop» «v_dop»)) (now (buffer .entry)) ⌝ }
 {
     answer_written(frames::write_gps_extended(
         buffer,
@@ -137,7 +140,8 @@ pub extern "C" fn crsf_write_battery(
     remaining: u8,
     id: u8,
 ) -> u64
-    ensures { λ r. ⌜ (r, now (buffer .exit)) ≡ writes dest batteryType (batteryImage (batteryFrom voltage current «capacity_used» remaining id)) (now (buffer .entry)) ⌝ }
+    ensures { λ r. ⌜ (r, now (buffer .exit)) ≡ writes dest batteryType (batteryImage
+        (batteryFrom voltage current «capacity_used» remaining id)) (now (buffer .entry)) ⌝ }
 {
     answer_written(frames::write_battery(
         buffer,
@@ -159,7 +163,8 @@ pub extern "C" fn crsf_write_baro_altitude(
     altitude_packed: u16,
     vertical_speed_packed: i8,
 ) -> u64
-    ensures { λ r. ⌜ (r, now (buffer .exit)) ≡ writes dest baroAltitudeType (baroAltitudeImage (baroAltitudeFrom «altitude_packed» «vertical_speed_packed»)) (now (buffer .entry)) ⌝ }
+    ensures { λ r. ⌜ (r, now (buffer .exit)) ≡ writes dest baroAltitudeType (baroAltitudeImage
+        (baroAltitudeFrom «altitude_packed» «vertical_speed_packed»)) (now (buffer .entry)) ⌝ }
 {
     answer_written(frames::write_baro_altitude(
         buffer,
@@ -217,7 +222,8 @@ pub extern "C" fn crsf_write_rpm(
     rpm_source_id: u8,
     rpm_values: &[i32],
 ) -> u64
-    ensures { λ r. ⌜ (r, now (buffer .exit)) ≡ writes dest rpmType (newRpmImage «rpm_source_id» (now («rpm_values» .entry))) (now (buffer .entry)) ⌝ }
+    ensures { λ r. ⌜ (r, now (buffer .exit)) ≡ writes dest rpmType
+        (newRpmImage «rpm_source_id» (now («rpm_values» .entry))) (now (buffer .entry)) ⌝ }
 {
     let made = Rpm::new(rpm_source_id, rpm_values);
     let answer = made.answer;

@@ -1,3 +1,3 @@
 fn main() {
-    listing_io::list_input();
+    listing_io::crsf_list();
 }

@@ -1,1 +1,2 @@
-pub mod Kept
+-- What the proofs of several functions use.
+mod Kept

@@ -1,21 +1,25 @@
-// The listing of standard input on standard output, through fixed buffers. What is read and written is outside any contract; what is listed of it
-// is the promise of `listing`. A read or a write that fails ends it, and is reported on standard error.
-use libc::STDERR_FILENO;
-use libc::STDIN_FILENO;
+// The listing of a file or of standard input on standard output, through fixed buffers. What a read yields and what becomes of a write is outside any
+// contract; the lines of what was read, handed to a write, are promised, and so is what is held after a piece. What was read is listed and written
+// before more is read. A read or a write that fails ends the listing; one that a signal interrupted is asked again.
+mod command;
+
 use libc::STDOUT_FILENO;
 use lines::line::LONGEST;
 use lines::line::list_held;
+use listing::Listed;
 use listing::Status;
 use listing::list_in;
 use stream::LIMIT;
+ghost use mathlib.Core.Path.{_≡_};
 ghost use Prim.Native.Nat.{_≤_, _<_};
 ghost use lib.ListN.{length};
 ghost use Rattle.reading.specs.Reading.{limit};
-ghost use Rattle.listing_io.specs.State.{Sound, Ends};
+ghost use Rattle.listing.specs.Fill.{Lists};
+ghost use Rattle.listing_io.specs.State.{Sound, Leaves, isLast, Ends};
 
 // How a listing ended.
-pub enum Ended {
-    // All of the input is listed, with the line of that many held bytes.
+enum Ended {
+    // All of the input is listed, with the line of this many held bytes.
     Listed(u8),
     // The input was not read to its end.
     ReadFailed,
@@ -33,146 +37,178 @@ enum Next {
     WriteFailed,
 }
 
-// Where the held bytes stand, how much of the output buffer is filled, and what comes next.
+// Where the held bytes stand, and what comes next.
 struct State {
     start: usize,
     end: usize,
-    at: usize,
     next: Next,
 }
 
-// The same after a part of a piece, with how many bytes of it were taken, and whether the piece is done with: all of it is taken, or something failed.
+// The lines of a part of a piece, and whether they were written.
 struct Part {
+    listed: Listed,
+    is_written: bool,
+}
+
+// Where the held bytes stand after a piece, and whether all of it was listed and written.
+struct Rest {
     start: usize,
     end: usize,
-    at: usize,
-    taken: usize,
-    next: Next,
-    is_done: bool,
+    is_listed: bool,
 }
 
-fn after_write(is_written: bool) -> Next {
-    if is_written {
+// How many bytes one write took, and whether to go on.
+struct Put {
+    taken: usize,
+    goes_on: bool,
+}
+
+fn is_interrupted() -> bool {
+    os::errno() == libc::EINTR
+}
+
+fn write_some(bytes: &[u8]) -> Put
+    ensures { λ r. ⌜ r .taken ≤ length (now (bytes .entry)) ⌝ }
+{
+    let got = libc::write(STDOUT_FILENO, bytes);
+    if got < 0 {
+        return Put {
+            taken: 0,
+            goes_on: is_interrupted(),
+        };
+    }
+    let taken = io::count(got, bytes);
+    Put {
+        taken,
+        goes_on: 0 < taken,
+    }
+}
+
+// Writes all of the bytes. The loop counts its turns down, from a number that no run uses up.
+fn write_text(bytes: &[u8]) -> bool {
+    let mut done = 0;
+    let mut turns = u64::MAX;
+    while 0 < turns {
+        turns -= 1;
+        if bytes.len() <= done {
+            return true;
+        }
+        let put = write_some(&bytes[done..]);
+        done += put.taken;
+        if !put.goes_on {
+            return false;
+        }
+    }
+    false
+}
+
+fn is_last(status: Status) -> bool
+    ensures { λ r. ⌜ r ≡ isLast status ⌝ }
+{
+    match status {
+        Status::More => true,
+        Status::Full => false,
+        Status::Refused(_) => true,
+    }
+}
+
+// One turn: as many lines as the buffer has room for, and a write of them.
+fn list_part(places: &mut [u8], out: &mut [u8], start: usize, end: usize, input: &[u8]) -> Part
+    requires { ⌜ Sound (length (now places)) start end ⌝ }
+    ensures { λ r. ⌜ Lists (now (places .entry)) start end (now (input .entry)) (now (out .entry)) (now (places .exit)) (now (out .exit)) (r .listed) ⌝ }
+{
+    let listed = list_in(places, start, end, input, out);
+    let is_written = write_text(&out[..listed.written]);
+    Part { listed, is_written }
+}
+
+// All lines of a piece.
+fn list_piece(places: &mut [u8], out: &mut [u8], start: usize, end: usize, piece: &[u8]) -> Rest
+    requires { ⌜ Sound (length (now places)) start end ⌝ }
+    ensures { λ r. ⌜ Leaves (now (places .entry)) start end (now (piece .entry)) (now (places .exit)) r ⌝ }
+{
+    let mut from = start;
+    let mut to = end;
+    let mut taken = 0;
+    let mut turns = u64::MAX;
+    while 0 < turns {
+        turns -= 1;
+        let part = list_part(places, out, from, to, &piece[taken..]);
+        let listed = part.listed;
+        from = listed.start;
+        to = listed.end;
+        taken += listed.taken;
+        if !part.is_written {
+            return Rest {
+                start: from,
+                end: to,
+                is_listed: false,
+            };
+        }
+        let status = listed.status;
+        if is_last(status) {
+            return Rest {
+                start: from,
+                end: to,
+                is_listed: true,
+            };
+        }
+    }
+    Rest {
+        start: from,
+        end: to,
+        is_listed: false,
+    }
+}
+
+fn after_piece(is_listed: bool) -> Next {
+    if is_listed {
         Next::Read
     } else {
         Next::WriteFailed
     }
 }
 
-// As many lines as the buffer has room for. A full buffer is written out whole.
-fn list_part(
-    places: &mut [u8],
-    out: &mut [u8],
-    start: usize,
-    end: usize,
-    at: usize,
-    input: &[u8],
-) -> Part
-    requires { ⌜ Sound (length (now places)) (length (now out)) start end at ⌝ }
-    ensures { λ r. ⌜ (Sound (length (now (places .entry))) (length (now (out .entry))) (r .start) (r .end) (r .at)) × (r .taken ≤ length (now (input .entry))) ⌝ }
-{
-    let listed = list_in(places, start, end, input, &mut out[at..]);
-    let filled = at + listed.written;
-    let status = listed.status;
-    match status {
-        Status::More => Part {
-            start: listed.start,
-            end: listed.end,
-            at: filled,
-            taken: listed.taken,
-            next: Next::Read,
-            is_done: true,
-        },
-        Status::Full => {
-            let is_written = io::write_all(STDOUT_FILENO, &out[..filled]);
-            let next = after_write(is_written);
-            Part {
-                start: listed.start,
-                end: listed.end,
-                at: 0,
-                taken: listed.taken,
-                next,
-                is_done: !is_written,
-            }
-        }
-        Status::Refused(_) => Part {
-            start,
-            end,
-            at,
-            taken: 0,
-            next: Next::ReadFailed,
-            is_done: true,
-        },
-    }
-}
-
-// All lines of a piece. The loop counts its turns down, from a number that no run uses up.
-fn list_piece(
-    places: &mut [u8],
-    out: &mut [u8],
-    start: usize,
-    end: usize,
-    at: usize,
-    piece: &[u8],
-) -> State
-    requires { ⌜ Sound (length (now places)) (length (now out)) start end at ⌝ }
-    ensures { λ r. ⌜ Sound (length (now (places .entry))) (length (now (out .entry))) (r .start) (r .end) (r .at) ⌝ }
-{
-    let mut from = start;
-    let mut to = end;
-    let mut filled = at;
-    let mut taken = 0;
-    let mut turns = u64::MAX;
-    while 0 < turns {
-        turns -= 1;
-        let part = list_part(places, out, from, to, filled, &piece[taken..]);
-        from = part.start;
-        to = part.end;
-        filled = part.at;
-        taken += part.taken;
-        if part.is_done {
-            let next = part.next;
-            return State {
-                start: from,
-                end: to,
-                at: filled,
-                next,
-            };
-        }
-    }
-    State {
-        start: from,
-        end: to,
-        at: filled,
-        next: Next::ReadFailed,
+fn after_failed_read() -> Next {
+    if is_interrupted() {
+        Next::Read
+    } else {
+        Next::ReadFailed
     }
 }
 
 // One read, and the lines of what came.
-fn list_read(places: &mut [u8], out: &mut [u8], start: usize, end: usize, at: usize) -> State
-    requires { ⌜ Sound (length (now places)) (length (now out)) start end at ⌝ }
-    ensures { λ r. ⌜ Sound (length (now (places .entry))) (length (now (out .entry))) (r .start) (r .end) (r .at) ⌝ }
+fn list_read(
+    fd: i32,
+    places: &mut [u8],
+    out: &mut [u8],
+    piece: &mut [u8],
+    start: usize,
+    end: usize,
+) -> State
+    requires { ⌜ Sound (length (now places)) start end ⌝ }
+    ensures { λ r. ⌜ Sound (length (now (places .entry))) (r .start) (r .end) ⌝ }
 {
-    let mut piece = io::large_buffer();
-    let got = libc::read(STDIN_FILENO, &mut piece);
+    let got = libc::read(fd, piece);
     if got < 0 {
-        return State {
-            start,
-            end,
-            at,
-            next: Next::ReadFailed,
-        };
+        let next = after_failed_read();
+        return State { start, end, next };
     }
     if got == 0 {
         return State {
             start,
             end,
-            at,
             next: Next::End,
         };
     }
-    let n = io::count(got, &piece);
-    list_piece(places, out, start, end, at, &piece[..n])
+    let n = io::count(got, piece);
+    let rest = list_piece(places, out, start, end, &piece[..n]);
+    let next = after_piece(rest.is_listed);
+    State {
+        start: rest.start,
+        end: rest.end,
+        next,
+    }
 }
 
 fn is_read(next: Next) -> bool {
@@ -185,29 +221,26 @@ fn is_read(next: Next) -> bool {
 }
 
 // Reads to the end of the input.
-fn list_reads(places: &mut [u8], out: &mut [u8]) -> State
-    requires { ⌜ 0 < length (now places) ⌝ }
-    ensures { λ r. ⌜ Sound (length (now (places .entry))) (length (now (out .entry))) (r .start) (r .end) (r .at) ⌝ }
+fn list_reads(fd: i32, places: &mut [u8], out: &mut [u8], piece: &mut [u8]) -> State
+    requires { ⌜ 4 ≤ length (now places) ⌝ }
+    ensures { λ r. ⌜ Sound (length (now (places .entry))) (r .start) (r .end) ⌝ }
 {
     let mut start = 0;
     let mut end = 0;
-    let mut at = 0;
     let mut turns = u64::MAX;
     while 0 < turns {
         turns -= 1;
-        let state = list_read(places, out, start, end, at);
+        let state = list_read(fd, places, out, piece, start, end);
         let next = state.next;
         if !is_read(next) {
             return state;
         }
         start = state.start;
         end = state.end;
-        at = state.at;
     }
     State {
         start,
         end,
-        at,
         next: Next::ReadFailed,
     }
 }
@@ -215,7 +248,7 @@ fn list_reads(places: &mut [u8], out: &mut [u8]) -> State
 fn write_held(held: u8) -> bool {
     let mut line = [0u8; LONGEST];
     let n = list_held(&mut line, held);
-    io::write_all(STDOUT_FILENO, &line[..n])
+    write_text(&line[..n])
 }
 
 // The last line, where the input has ended.
@@ -237,36 +270,20 @@ fn list_end(next: Next, held: u8) -> Ended
     }
 }
 
-fn list_all() -> Ended
+// Lists what the descriptor yields.
+fn list_input(fd: i32) -> Ended
     ensures { λ r. ⌜ Ends r ⌝ }
 {
     let mut places = [0u8; LIMIT];
     let mut out = io::large_buffer();
-    let state = list_reads(&mut places, &mut out);
-    let at = state.at;
-    if !io::write_all(STDOUT_FILENO, &out[..at]) {
-        return Ended::WriteFailed;
-    }
+    let mut piece = io::large_buffer();
+    let state = list_reads(fd, &mut places, &mut out, &mut piece);
     let next = state.next;
     list_end(next, (state.end - state.start) as u8)
 }
 
-fn report(ended: Ended) {
-    match ended {
-        Ended::Listed(_) => {}
-        Ended::ReadFailed => {
-            io::write_all(STDERR_FILENO, b"list: the input was not read to its end\n");
-        }
-        Ended::WriteFailed => {
-            io::write_all(STDERR_FILENO, b"list: the output was not written\n");
-        }
-    }
-}
-
-pub fn list_input() -> Ended
-    ensures { λ r. ⌜ Ends r ⌝ }
-{
-    let ended = list_all();
-    report(ended);
-    ended
+// The program. Answers its status: 0 where everything was read and written, 1 where a file, a read or a write failed, 2 for bad usage.
+#[no_mangle]
+pub extern "C" fn crsf_list() -> u8 {
+    command::command()
 }

@@ -30,6 +30,9 @@ mod archive {
         pub fn crsf_is_address(byte: u8) -> bool;
         pub fn crsf_header_of(packet_type: u8) -> u8;
         pub fn crsf_checksum(bytes: *const u8, bytes_len: usize) -> u8;
+        pub fn crsf_pack_altitude(decimetres: i32) -> u16;
+        pub fn crsf_baro_decimetres(packed: u16) -> i32;
+        pub fn crsf_gps_metres(raw: u16) -> i32;
         pub fn crsf_write_link_statistics(
             buffer: *mut u8,
             buffer_len: usize,
@@ -128,6 +131,18 @@ pub fn header_of(packet_type: u8) -> u8 {
 
 pub fn checksum(bytes: &[u8]) -> u8 {
     unsafe { archive::crsf_checksum(bytes.as_ptr(), bytes.len()) }
+}
+
+pub fn pack_altitude(decimetres: i32) -> u16 {
+    unsafe { archive::crsf_pack_altitude(decimetres) }
+}
+
+pub fn baro_decimetres(packed: u16) -> i32 {
+    unsafe { archive::crsf_baro_decimetres(packed) }
+}
+
+pub fn gps_metres(raw: u16) -> i32 {
+    unsafe { archive::crsf_gps_metres(raw) }
 }
 
 /// A writer's wrapper: the buffer, the address, and then the record's numbers and slices.

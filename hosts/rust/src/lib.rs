@@ -1,7 +1,8 @@
-//! CRSF frames for a host in Rust, over the entries of the archive that `rt staticlib host` writes. What those promise is proved of their code, for
-//! every input; this package only puts them into Rust's own words.
+//! CRSF frames for a host in Rust, over the entries of the proved archive. What those promise is proved of their code, for every input; this package
+//! only puts them into Rust's own words.
 //!
-//! The archive is looked for in the folder that `CRSF_ARCHIVE_DIR` names, else in the repository's `target/staticlib`.
+//! The archive comes first: `rt staticlib host` writes it, and `./install PREFIX` installs it. It is looked for in the folder that `CRSF_ARCHIVE_DIR`
+//! names; without that variable in the repository's `target/staticlib`, or, from an installed package, in `PREFIX/lib`.
 #![deny(missing_debug_implementations)]
 
 mod entry;
@@ -16,8 +17,11 @@ pub use parser::{CrsfParser, RawCrsfPacket, SavedParser};
 /// How a packet type's header is made.
 #[derive(Clone, Copy, Debug, PartialEq, Eq)]
 pub enum Header {
+    /// The type is not in the list.
     Unlisted,
+    /// The payload follows the type.
     Short,
+    /// The payload begins with a destination and an origin.
     Extended,
 }
 
@@ -26,6 +30,7 @@ pub fn is_address(byte: u8) -> bool {
     entry::is_address(byte)
 }
 
+/// Whether a packet type is unlisted, or has a short or an extended header.
 pub fn header_of(packet_type: u8) -> Header {
     match entry::header_of(packet_type) {
         1 => Header::Short,
@@ -34,7 +39,7 @@ pub fn header_of(packet_type: u8) -> Header {
     }
 }
 
-/// The check byte of a type and its payload.
+/// The check byte of a type and its payload (CRC-8/DVB-S2).
 pub fn checksum(bytes: &[u8]) -> u8 {
     entry::checksum(bytes)
 }

@@ -24,11 +24,15 @@ impl CrsfParser {
         CrsfParser { state: [0; STATE_SIZE] }
     }
 
-    /// A parser over 66 bytes that were kept elsewhere. Bytes that are no state are refused by each call, with `BadState`.
-    pub const fn from_state(state: [u8; STATE_SIZE]) -> Self {
-        CrsfParser { state }
+    /// A parser over the 66 bytes of a state that was kept elsewhere. Bytes that are not a valid state are refused with `BadState`, so no parser has
+    /// them.
+    pub fn from_state(state: [u8; STATE_SIZE]) -> Result<Self, CrsfStreamError> {
+        let parser = CrsfParser { state };
+        parser.held()?;
+        Ok(parser)
     }
 
+    /// The 66 bytes of the state: start, end, and the 64 places of the held bytes.
     pub const fn state(&self) -> &[u8; STATE_SIZE] {
         &self.state
     }
@@ -36,7 +40,8 @@ impl CrsfParser {
     /// The next frame or refusal of the stream, or `None` where more input is needed; `input` goes on behind what was taken.
     ///
     /// A frame is lent from `input` if nothing was held before the call, else from the parser. Call again until `None`: an answer may be due with no
-    /// input left. With `None` all of `input` is taken and held.
+    /// input left. With `None` all of `input` is taken. After a refusal one byte is dropped, and the next call goes on behind it; it is never
+    /// `BadState`, since a parser's state is valid.
     ///
     /// ```
     /// use crsf_host::{CrsfParser, CrsfStreamError};
@@ -79,7 +84,7 @@ impl CrsfParser {
         }
     }
 
-    /// The saved form of what is held: a parser restored from it goes on where this one is.
+    /// The saved form of what is held: a parser restored from it goes on where this one is. After `None` it is never refused.
     pub fn save(&self) -> Result<SavedParser, CrsfStreamError> {
         let mut form = [0; SAVED_MAX];
         let answer = entry::save(&self.state, &mut form);
@@ -131,27 +136,33 @@ impl<'p> RawCrsfPacket<'p> {
         }
     }
 
+    /// The whole frame.
     pub fn as_bytes(&self) -> &'p [u8] {
         self.bytes
     }
 
+    /// How many bytes the frame has, 4 to 64.
     #[allow(clippy::len_without_is_empty)]
     pub fn len(&self) -> usize {
         self.bytes.len()
     }
 
+    /// The address that it was sent to.
     pub fn dst_addr(&self) -> u8 {
         self.bytes[0]
     }
 
+    /// The packet type, as `Battery::PACKET_TYPE`.
     pub fn raw_packet_type(&self) -> u8 {
         self.bytes[2]
     }
 
+    /// The bytes between the type and the check byte.
     pub fn payload(&self) -> &'p [u8] {
         &self.bytes[3..self.bytes.len() - 1]
     }
 
+    /// The check byte that it carries.
     pub fn crc(&self) -> u8 {
         self.bytes[self.bytes.len() - 1]
     }

@@ -58,8 +58,8 @@ slice-write-state-2 c =
     let two = two-written (stateBefore restored) (fits (restored .before .before)) (restored .restore-in .last .0) in
     simp length-set (omega arith)
 
-enum-is : tie.Need-enum-is
-enum-is c = search needs
+enum-told : tie.Need-enum-told
+enum-told c = search needs
 
 same-length-2 : tie.Need-same-length-2
 same-length-2 c = search needs
@@ -80,7 +80,7 @@ same-length-3 c = search needs
 returns-3 : tie.Need-returns-3
 returns-3 c =
     let restored = c .before .before .before .before in
-    let is = c .enum-is .given .1 in
+    let is = c .enum-told .given .1 in
     let s = stateBefore restored in
     let f = fits (restored .before .before) in
     let left = restored .restore-in .last .0 in
@@ -102,7 +102,7 @@ restore-spec =
     slice-write-state
     narrow-requires
     slice-write-state-2
-    enum-is
+    enum-told
     same-length-2
     returns-2
     same-length-3

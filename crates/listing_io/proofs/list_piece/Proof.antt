@@ -1,80 +1,99 @@
 -- `listing_io::list_piece` meets its contract. The measure is the number of turns that are left. Assumes nothing.
-use Prim.Native.Nat.{_+_, _-_, _≤_}
+use mathlib.Core.Path.{subst, sym, _∙_}
+use mathlib.Core.List.{List}
+use Prim.Native.Nat.{ℕ, _+_}
 use native.Mathlib.Omega.{arith}
-use lib.ListN.{length, drop, length-take, length-drop}
-use Rattle.listing_io.proofs.Kept.{Kept, begin, now-sound, again}
+use lib.ListN.{length, drop}
+use Rattle.stream.proofs.Loop.{unread-is}
+use Rattle.listing.specs.Fill.{Lists}
+use Rattle.listing_io.proofs.Kept.{Kept, begin, not-listed, now-sound, again, leaves}
 use Rattle.listing_io.proofs.list_piece.Statement.{statement}
 use Rattle.listing_io.proofs.list_piece.Tie as tie
 
 abbrev Inv-loop : tie.InvT-loop
-Inv-loop places₀ out₀ start end at piece from₀ to₀ filled₀ taken₀ turns₀ places out from to filled taken turns =
-    (Kept places₀ out₀ places out from to filled) × (taken ≤ length piece)
+Inv-loop places₀ out₀ start end piece from₀ to₀ taken₀ turns₀ places out from to taken turns =
+    Kept places₀ out₀ start end piece places out from to taken
 
 abbrev μ-loop : tie.MeasureT-loop
-μ-loop places₀ out₀ start end at piece from₀ to₀ filled₀ taken₀ turns₀ places out from to filled taken turns =
-    turns
+μ-loop places₀ out₀ start end piece from₀ to₀ taken₀ turns₀ places out from to taken turns = turns
 
--- what a part leaves
-kept : (c : tie.After-list-part Inv-loop μ-loop)
-    → (let a = c .before .before .before .before .before .before .before .before .before .args in let part = c .list-part in let r = part .result in
-    Kept (a .places .now) (a .out .now) (part .last .0) (part .last .1 .0) (r .start) (r .end) (r .at))
-kept c =
-    let loop = c .before .before .before .before .before .loop in
-    again (loop .inv .0) (c .list-part .kept .0) (c .list-part .kept .1 .0) (c .list-part .ensures .0)
-
-taken-in : (c : tie.After-list-part Inv-loop μ-loop)
-    → (let at = c .before .before .before .before .before in
-    at .loop .taken + c .list-part .result .taken ≤ length (at .before .before .before .before .args .piece .now))
-taken-in c =
+-- a turn over what is unread
+turn : (c : tie.After-list-part Inv-loop μ-loop)
+    → (let at = c .before .before .before .before .before in let s = at .loop in let part = c .list-part in
+    Lists (s .places) (s .from) (s .to) (drop (s .taken) (at .before .before .before .before .args .piece .now)) (s .out) (part .last .0) (part .last .1 .0) (part .result .listed))
+turn c =
     let at = c .before .before .before .before .before in
     let s = at .loop in
-    let p = at .before .before .before .before .args .piece .now in
-    omega (arith, c .list-part .ensures .1, length-take (length p - s .taken) (drop (s .taken) p), length-drop (s .taken) p, s .inv .1)
+    let part = c .list-part in
+    subst (λ (l : List ℕ). Lists (s .places) (s .from) (s .to) l (s .out) (part .last .0) (part .last .1 .0) (part .result .listed))
+    (unread-is (at .before .before .before .before .args .piece .now) (s .taken))
+    (part .ensures)
+
+-- what it leaves
+kept : (c : tie.After-list-part Inv-loop μ-loop)
+    → (let at = c .before .before .before .before .before in let a = at .before .before .before .before .args in let part = c .list-part in let r = part .result .listed in
+    Kept (a .places .now) (a .out .now) (a .start) (a .end) (a .piece .now) (part .last .0) (part .last .1 .0) (r .start) (r .end) (at .loop .taken + r .taken))
+kept c = again (c .before .before .before .before .before .loop .inv) (c .list-part .kept .0) (c .list-part .kept .1 .0) (turn c)
 
 loop-holds : tie.Need-loop-holds Inv-loop μ-loop
-loop-holds c = (begin (c .before .before .before .pre), omega arith)
+loop-holds c = let start = c .before .before .before in begin (start .args .piece .now) (start .pre)
 
 sub-turns : tie.Need-sub-turns Inv-loop μ-loop
 sub-turns c = omega arith
 
 sub-list-part : tie.Need-sub-list-part Inv-loop μ-loop
-sub-list-part c = c .before .before .before .loop .inv .1
+sub-list-part c = c .before .before .before .loop .inv .taken-in
 
 part-list-part-start : tie.Need-part-list-part-start Inv-loop μ-loop
-part-list-part-start c = c .before .before .before .loop .inv .1
+part-list-part-start c = c .before .before .before .loop .inv .taken-in
 
 part-list-part-end : tie.Need-part-list-part-end Inv-loop μ-loop
 part-list-part-end c = omega arith
 
 list-part-requires : tie.Need-list-part-requires Inv-loop μ-loop
-list-part-requires c κs = now-sound (c .before .before .before .before .loop .inv .0)
+list-part-requires c κs = now-sound (c .before .before .before .before .loop .inv)
 
 add-taken : tie.Need-add-taken Inv-loop μ-loop
-add-taken c = omega (arith, taken-in (c .before .before .before .before .before))
+add-taken c = omega (arith, kept (c .before .before .before .before .before .before) .taken-in)
 
 same-length : tie.Need-same-length Inv-loop μ-loop
-same-length c = kept (c .before .before .before .before .before .before) .places-size
+same-length c = kept (c .before .before .before .before .before .before .before .before) .places-size
 
 same-length-2 : tie.Need-same-length-2 Inv-loop μ-loop
-same-length-2 c = kept (c .before .before .before .before .before .before) .out-size
+same-length-2 c = kept (c .before .before .before .before .before .before .before .before) .out-size
 
 returns : tie.Need-returns Inv-loop μ-loop
-returns c = kept (c .before .before .before .before .before .before) .sound
+returns c = not-listed (kept (c .before .before .before .before .before .before .before .before) .sound)
+
+is-last-requires : tie.Need-is-last-requires Inv-loop μ-loop
+is-last-requires c κs = tt
+
+same-length-3 : tie.Need-same-length-3 Inv-loop μ-loop
+same-length-3 c = kept (c .before .before .before .before .before .before .before .before .before .before) .places-size
+
+same-length-4 : tie.Need-same-length-4 Inv-loop μ-loop
+same-length-4 c = kept (c .before .before .before .before .before .before .before .before .before .before) .out-size
+
+returns-2 : tie.Need-returns-2 Inv-loop μ-loop
+returns-2 c =
+    let part = c .before .before .before .before .before .before .before .before .before .before in
+    leaves (part .before .before .before .before .before .loop .inv) (part .list-part .kept .0) (part .list-part .kept .1 .0) (turn part)
+    (sym (c .before .is-last .ensures) ∙ c .if2 .taken)
 
 loop-less : tie.Need-loop-less Inv-loop μ-loop
 loop-less c = omega arith
 
 loop-again : tie.Need-loop-again Inv-loop μ-loop
-loop-again c = let part = c .before .before .before .before .before .before in (kept part, taken-in part)
+loop-again c = kept (c .before .before .before .before .before .before .before .before .before .before)
 
-same-length-3 : tie.Need-same-length-3 Inv-loop μ-loop
-same-length-3 c = c .before .loop .inv .0 .places-size
+same-length-5 : tie.Need-same-length-5 Inv-loop μ-loop
+same-length-5 c = c .before .loop .inv .places-size
 
-same-length-4 : tie.Need-same-length-4 Inv-loop μ-loop
-same-length-4 c = c .before .loop .inv .0 .out-size
+same-length-6 : tie.Need-same-length-6 Inv-loop μ-loop
+same-length-6 c = c .before .loop .inv .out-size
 
-returns-2 : tie.Need-returns-2 Inv-loop μ-loop
-returns-2 c = c .before .loop .inv .0 .sound
+returns-3 : tie.Need-returns-3 Inv-loop μ-loop
+returns-3 c = not-listed (c .before .loop .inv .sound)
 
 pub list-piece-spec : {M : Type 1} → statement M
 list-piece-spec =
@@ -92,8 +111,12 @@ list-piece-spec =
     same-length
     same-length-2
     returns
-    loop-less
-    loop-again
+    is-last-requires
     same-length-3
     same-length-4
-    returns-2)
+    returns-2
+    loop-less
+    loop-again
+    same-length-5
+    same-length-6
+    returns-3)

@@ -15,12 +15,12 @@ list-held-requires c κs = search needs
 array-share-prefix-line : tie.Need-array-share-prefix-line
 array-share-prefix-line c = omega (arith, held-fits _ _ (c .before .list-held .ensures))
 
-slice-aggregate-write-all : tie.Need-slice-aggregate-write-all
-slice-aggregate-write-all c =
+slice-aggregate-write-text : tie.Need-slice-aggregate-write-text
+slice-aggregate-write-text c =
     simp length-take (omega (arith, held-fits _ _ (c .before .before .list-held .ensures)))
 
-write-all-requires : tie.Need-write-all-requires
-write-all-requires c κs = search needs
+write-text-requires : tie.Need-write-text-requires
+write-text-requires c κs = search needs
 
 returns : tie.Need-returns
 returns c = search needs
@@ -32,6 +32,6 @@ write-held-spec =
     slice-aggregate-list-held
     list-held-requires
     array-share-prefix-line
-    slice-aggregate-write-all
-    write-all-requires
+    slice-aggregate-write-text
+    write-text-requires
     returns)

@@ -37,7 +37,8 @@ unfolding baroAltitudeDecoded
 returns-2 c =
     let known = c .before .before in
     let read = known .before .before in
-    fixed-refused baroAltitudeDecoded (read .before .before .args .out .now) (read .from-bytes .ensures) (known .read2 .given .0 .0) (known .read2 .given .1) refl (c .refuse .ensures)
+    fixed-refused baroAltitudeDecoded (read .before .before .args .out .now) (read .from-bytes .ensures)
+    (known .read2 .given .0 .0) (known .read2 .given .1) refl (c .refuse .ensures)
 
 pub crsf-read-baro-altitude-spec : {M : Type 1} → statement M
 crsf-read-baro-altitude-spec =

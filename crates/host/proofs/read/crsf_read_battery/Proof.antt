@@ -47,7 +47,8 @@ unfolding batteryDecoded
 returns-2 c =
     let known = c .before .before in
     let read = known .before .before in
-    fixed-refused batteryDecoded (read .before .before .args .out .now) (read .from-bytes .ensures) (known .read2 .given .0 .0) (known .read2 .given .1) refl (c .refuse .ensures)
+    fixed-refused batteryDecoded (read .before .before .args .out .now) (read .from-bytes .ensures)
+    (known .read2 .given .0 .0) (known .read2 .given .1) refl (c .refuse .ensures)
 
 pub crsf-read-battery-spec : {M : Type 1} → statement M
 crsf-read-battery-spec =

@@ -37,7 +37,8 @@ returns-2 c =
     let known = c .before .before in
     let read = known .before .before .before in
     let a = read .before .before .before .args in
-    ap (λ (r : ℕ). (r, a .out .now)) (c .refuse .ensures) ∙ channels-refused (a .payload .now) (a .out .now) (read .from-bytes .ensures) (known .answer .given .0 .0) (known .answer .given .1)
+    ap (λ (r : ℕ). (r, a .out .now)) (c .refuse .ensures)
+    ∙ channels-refused (a .payload .now) (a .out .now) (read .from-bytes .ensures) (known .answer .given .0 .0) (known .answer .given .1)
 
 pub crsf-read-rc-channels-packed-spec : {M : Type 1} → statement M
 crsf-read-rc-channels-packed-spec =

@@ -19,7 +19,8 @@ same-length c = search needs
 returns : tie.Need-returns
 returns c =
     let fits = c .before .before .before .before .before .before .fits in
-    simp (toZ-ofZ w8 _ (fits .vertical-speed-packed)) at (frame-answered _ _ _ _ (c .before .before .before .write-baro-altitude .ensures) (baro-altitude-small _) (c .answer-written .ensures))
+    simp (toZ-ofZ w8 _ (fits .vertical-speed-packed))
+    at (frame-answered _ _ _ _ (c .before .before .before .write-baro-altitude .ensures) (baro-altitude-small _) (c .answer-written .ensures))
 
 pub crsf-write-baro-altitude-spec : {M : Type 1} → statement M
 crsf-write-baro-altitude-spec =

@@ -25,7 +25,8 @@ returns c =
     let a = start .args in
     let packet : Battery =
     record { voltage = toZ w16 (ofZ w16 (a .voltage)); current = toZ w16 (ofZ w16 (a .current)); «capacity_used» = a .capacity-used; remaining = a .remaining; id = a .id } in
-    simp (toZ-ofZ w16 _ (fits .voltage), toZ-ofZ w16 _ (fits .current)) at (frame-answered _ _ _ _ (c .before .before .before .write-battery .ensures) (battery-small packet) (c .answer-written .ensures))
+    simp (toZ-ofZ w16 _ (fits .voltage), toZ-ofZ w16 _ (fits .current))
+    at (frame-answered _ _ _ _ (c .before .before .before .write-battery .ensures) (battery-small packet) (c .answer-written .ensures))
 
 pub crsf-write-battery-spec : {M : Type 1} → statement M
 crsf-write-battery-spec =

@@ -19,7 +19,8 @@ same-length c = search needs
 returns : tie.Need-returns
 returns c =
     let fits = c .before .before .before .before .before .before .fits in
-    simp (toZ-ofZ w32 _ (fits .latitude), toZ-ofZ w32 _ (fits .longitude)) at (frame-answered _ _ _ _ (c .before .before .before .write-gps .ensures) (gps-small _) (c .answer-written .ensures))
+    simp (toZ-ofZ w32 _ (fits .latitude), toZ-ofZ w32 _ (fits .longitude))
+    at (frame-answered _ _ _ _ (c .before .before .before .write-gps .ensures) (gps-small _) (c .answer-written .ensures))
 
 pub crsf-write-gps-spec : {M : Type 1} → statement M
 crsf-write-gps-spec = tie.close (tie.spec write-gps-requires answer-written-requires same-length returns)

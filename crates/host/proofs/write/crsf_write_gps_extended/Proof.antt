@@ -19,7 +19,17 @@ same-length c = search needs
 returns : tie.Need-returns
 returns c =
     let fits = c .before .before .before .before .before .before .fits in
-    simp (toZ-ofZ w16 _ (fits .n-speed), toZ-ofZ w16 _ (fits .e-speed), toZ-ofZ w16 _ (fits .v-speed), toZ-ofZ w16 _ (fits .h-speed-acc), toZ-ofZ w16 _ (fits .track-acc), toZ-ofZ w16 _ (fits .alt-ellipsoid), toZ-ofZ w16 _ (fits .h-acc), toZ-ofZ w16 _ (fits .v-acc)) at (frame-answered _ _ _ _ (c .before .before .before .write-gps-extended .ensures) (gps-extended-small _) (c .answer-written .ensures))
+    simp (
+      toZ-ofZ w16 _ (fits .n-speed),
+      toZ-ofZ w16 _ (fits .e-speed),
+      toZ-ofZ w16 _ (fits .v-speed),
+      toZ-ofZ w16 _ (fits .h-speed-acc),
+      toZ-ofZ w16 _ (fits .track-acc),
+      toZ-ofZ w16 _ (fits .alt-ellipsoid),
+      toZ-ofZ w16 _ (fits .h-acc),
+      toZ-ofZ w16 _ (fits .v-acc),
+    )
+    at (frame-answered _ _ _ _ (c .before .before .before .write-gps-extended .ensures) (gps-extended-small _) (c .answer-written .ensures))
 
 pub crsf-write-gps-extended-spec : {M : Type 1} → statement M
 crsf-write-gps-extended-spec =

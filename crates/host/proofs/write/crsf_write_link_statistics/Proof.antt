@@ -19,7 +19,8 @@ same-length c = search needs
 returns : tie.Need-returns
 returns c =
     let fits = c .before .before .before .before .before .before .fits in
-    simp (toZ-ofZ w8 _ (fits .uplink-snr), toZ-ofZ w8 _ (fits .downlink-snr)) at (frame-answered _ _ _ _ (c .before .before .before .write-link-statistics .ensures) (link-statistics-small _) (c .answer-written .ensures))
+    simp (toZ-ofZ w8 _ (fits .uplink-snr), toZ-ofZ w8 _ (fits .downlink-snr))
+    at (frame-answered _ _ _ _ (c .before .before .before .write-link-statistics .ensures) (link-statistics-small _) (c .answer-written .ensures))
 
 pub crsf-write-link-statistics-spec : {M : Type 1} → statement M
 crsf-write-link-statistics-spec =

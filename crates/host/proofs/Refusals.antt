@@ -1,0 +1,70 @@
+-- Every entry that refuses says the number of the one definition of refusals, and the low bytes of what that carries.
+-- Assumes nothing.
+use mathlib.Core.Path.{_≡_, refl, ap, _∙_}
+use mathlib.Core.List.{List}
+use Prim.Native.Nat.{ℕ}
+use lib.Dec.{eqb}
+use lib.IntN.{ℤ}
+use Rattle.refusals.specs.Row.{rowOf}
+use Rattle.refusals.specs.declared.Refusal.{Refusal}
+use Rattle.writing.specs.Writing.{Image, writeOf}
+use Rattle.layout.specs.Decoded.{Decoded, refused}
+use Rattle.channels.specs.declared.RcChannelsPacked.{RcChannelsPacked}
+use Rattle.rpm.specs.declared.Rpm.{Rpm}
+use Rattle.stream.specs.declared.step.Reply.the-variants.{Refused}
+use Rattle.frames.specs.Frames.{framed}
+use Rattle.host_state.specs.Saving.{heldRowOf, resetState, stateImage, restoreState}
+use Rattle.host_answer.specs.Answer.{packed, answerRow, answers}
+use Rattle.host_answer.specs.Reply.{answerReply, Calls}
+use Rattle.host_answer.specs.Seen.{unpacked}
+use Rattle.host_answer.proofs.Fits.{call-fits}
+use Rattle.host_answer.proofs.Rows.{not-success}
+use Rattle.host_answer.proofs.Numbers.{refusalBytes, refusal-bytes, row-bytes}
+use Rattle.host_records.specs.Read.{gives, byRow, givesChannels, givesRpm}
+use Rattle.host.specs.Write.{writes}
+
+module _ (r : Refusal) where
+  -- ---- the state
+
+  pub call-refuses : {before input after : List ℕ} {n : ℕ} (c : Calls before input after n) → c .replied .reply ≡ Refused r
+      → unpacked 8 n ≡ refusalBytes (c .replied .taken) r
+  unfolding answerReply
+  call-refuses c e =
+      let fits = simp e at (call-fits (c .steps) .0) in
+      ap (unpacked 8) (c .packs) ∙ rw e (refusal-bytes (c .replied .taken) r fits)
+
+  pub reset-refuses : (state : List ℕ) → resetState state .0 ≡ rowOf r → unpacked 8 (answers (resetState state) .0) ≡ refusalBytes 0 r
+  reset-refuses state = row-bytes r refl
+
+  pub save-refuses : (state out : List ℕ) → writeOf (stateImage state) out .0 ≡ rowOf r
+      → unpacked 8 (answers (writeOf (stateImage state) out) .0) ≡ refusalBytes 0 r
+  save-refuses state out = row-bytes r refl
+
+  pub restore-refuses : (form state : List ℕ) → restoreState form state .0 ≡ rowOf r → unpacked 8 (answers (restoreState form state) .0) ≡ refusalBytes 0 r
+  restore-refuses form state = row-bytes r refl
+
+  pub held-refuses : (state : List ℕ) → heldRowOf state ≡ rowOf r → unpacked 8 (packed (answerRow (heldRowOf state))) ≡ refusalBytes 0 r
+  held-refuses state = row-bytes r refl
+
+  -- ---- writers
+
+  pub write-refuses : (dest kind : ℕ) (image : Image) (buffer : List ℕ) → writeOf (framed dest kind image) buffer .0 ≡ rowOf r
+      → unpacked 8 (writes dest kind image buffer .0) ≡ refusalBytes 0 r
+  write-refuses dest kind image buffer = row-bytes r refl
+
+  -- ---- readers
+
+  pub read-refuses : {read : Decoded} (out : List ℤ) → read ≡ refused (rowOf r) → unpacked 8 (gives read out .0) ≡ refusalBytes 0 r
+  unfolding gives
+  read-refuses out e = rw e (row-bytes r refl refl)
+
+  beside : {A : Type 0} {row : List ℕ} (whole : ℕ × List A) (out : List A) → row ≡ rowOf r → unpacked 8 (byRow row whole out .0) ≡ refusalBytes 0 r
+  beside whole out e = rw e (simp (not-success r) (row-bytes r refl refl))
+
+  pub channels-refuse : (read : List ℕ × RcChannelsPacked) (out : List ℕ) → read .0 ≡ rowOf r → unpacked 8 (givesChannels read out .0) ≡ refusalBytes 0 r
+  unfolding givesChannels
+  channels-refuse read out = beside _ out
+
+  pub rpm-refuses : (read : List ℕ × Rpm) (out : List ℤ) → read .0 ≡ rowOf r → unpacked 8 (givesRpm read out .0) ≡ refusalBytes 0 r
+  unfolding givesRpm
+  rpm-refuses read out = beside _ out
