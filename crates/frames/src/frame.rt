@@ -57,14 +57,14 @@ pub(crate) fn payload_start(len: usize) -> usize
     HEAD
 }
 
-// The place behind the payload's last, which the check byte needs if the payload takes them all.
-pub(crate) fn payload_end(len: usize) -> usize
-    ensures { λ r. ⌜ (r ≡ payloadStart len + (len - overhead)) × (r ≤ len) ⌝ }
+// How many places there are from there on, before that of the check byte.
+pub(crate) fn payload_room(len: usize) -> usize
+    ensures { λ r. ⌜ (r ≡ len - overhead) × (payloadStart len + r ≤ len) ⌝ }
 {
     if len < OVERHEAD {
         return 0;
     }
-    len - 1
+    len - OVERHEAD
 }
 
 // The frame of what a record's own writer left in the payload's places, or its refusal.

@@ -5,7 +5,7 @@
 mod frame;
 
 use channels::RcChannelsPacked;
-use frame::payload_end;
+use frame::payload_room;
 use frame::payload_start;
 use frame::sealed;
 use packets::is_address;
@@ -35,7 +35,7 @@ pub fn write_link_statistics(buffer: &mut [u8], dest: u8, packet: LinkStatistics
         return Written::Refused(Refusal::BadAddress);
     }
     let from = payload_start(buffer.len());
-    let to = payload_end(buffer.len());
+    let to = from + payload_room(buffer.len());
     let written = packet.to_bytes(&mut buffer[from..to]);
     sealed(buffer, dest, LinkStatistics::PACKET_TYPE, written)
 }
@@ -47,7 +47,7 @@ pub fn write_rc_channels_packed(buffer: &mut [u8], dest: u8, packet: RcChannelsP
         return Written::Refused(Refusal::BadAddress);
     }
     let from = payload_start(buffer.len());
-    let to = payload_end(buffer.len());
+    let to = from + payload_room(buffer.len());
     let written = packet.to_bytes(&mut buffer[from..to]);
     sealed(buffer, dest, RcChannelsPacked::PACKET_TYPE, written)
 }
@@ -59,7 +59,7 @@ pub fn write_gps(buffer: &mut [u8], dest: u8, packet: Gps) -> Written
         return Written::Refused(Refusal::BadAddress);
     }
     let from = payload_start(buffer.len());
-    let to = payload_end(buffer.len());
+    let to = from + payload_room(buffer.len());
     let written = packet.to_bytes(&mut buffer[from..to]);
     sealed(buffer, dest, Gps::PACKET_TYPE, written)
 }
@@ -71,7 +71,7 @@ pub fn write_gps_extended(buffer: &mut [u8], dest: u8, packet: GpsExtended) -> W
         return Written::Refused(Refusal::BadAddress);
     }
     let from = payload_start(buffer.len());
-    let to = payload_end(buffer.len());
+    let to = from + payload_room(buffer.len());
     let written = packet.to_bytes(&mut buffer[from..to]);
     sealed(buffer, dest, GpsExtended::PACKET_TYPE, written)
 }
@@ -83,7 +83,7 @@ pub fn write_battery(buffer: &mut [u8], dest: u8, packet: Battery) -> Written
         return Written::Refused(Refusal::BadAddress);
     }
     let from = payload_start(buffer.len());
-    let to = payload_end(buffer.len());
+    let to = from + payload_room(buffer.len());
     let written = packet.to_bytes(&mut buffer[from..to]);
     sealed(buffer, dest, Battery::PACKET_TYPE, written)
 }
@@ -95,7 +95,7 @@ pub fn write_baro_altitude(buffer: &mut [u8], dest: u8, packet: BaroAltitude) ->
         return Written::Refused(Refusal::BadAddress);
     }
     let from = payload_start(buffer.len());
-    let to = payload_end(buffer.len());
+    let to = from + payload_room(buffer.len());
     let written = packet.to_bytes(&mut buffer[from..to]);
     sealed(buffer, dest, BaroAltitude::PACKET_TYPE, written)
 }
@@ -107,7 +107,7 @@ pub fn write_rpm(buffer: &mut [u8], dest: u8, packet: Rpm) -> Written
         return Written::Refused(Refusal::BadAddress);
     }
     let from = payload_start(buffer.len());
-    let to = payload_end(buffer.len());
+    let to = from + payload_room(buffer.len());
     let written = packet.to_bytes(&mut buffer[from..to]);
     sealed(buffer, dest, Rpm::PACKET_TYPE, written)
 }
@@ -125,7 +125,7 @@ pub fn write_rpm_values(
         return Written::Refused(Refusal::BadAddress);
     }
     let from = payload_start(buffer.len());
-    let to = payload_end(buffer.len());
+    let to = from + payload_room(buffer.len());
     let written = rpm::write_values(&mut buffer[from..to], rpm_source_id, rpm_values);
     sealed(buffer, dest, Rpm::PACKET_TYPE, written)
 }

@@ -1,4 +1,5 @@
 -- `frames::write_gps` meets its contract: what the record's own writer leaves in the payload's places is framed. Assumes nothing.
+use Prim.Native.Nat.{_+_}
 use borrow.Author.Needs.{needs}
 use borrow.Author.Tests.{not-true, not-false}
 use Rattle.base.proofs.Tests.{not-as}
@@ -13,16 +14,16 @@ abbrev Start-of : tie.Else1 → tie.Start
 Start-of c = c .before .before .before
 
 made : (c : tie.After-to-bytes)
-    → (let end = c .before .before in
-    let start = end .before in
+    → (let room = c .before .before in
+    let start = room .before in
     let a = Start-of (start .before) .args in
-    Framed (a .dest) gpsType (a .buffer .now) (start .payload-start .result) (end .payload-end .result)
+    Framed (a .dest) gpsType (a .buffer .now) (start .payload-start .result) (start .payload-start .result + room .payload-room .result)
     (gpsImage (a .packet)) (c .to-bytes .result) (c .to-bytes .last .1 .0))
 made c =
-    let end = c .before .before in
-    let start = end .before in
+    let room = c .before .before in
+    let start = room .before in
     let a = Start-of (start .before) .args in
-    lent (a .dest) gpsType (a .buffer .now) _ _ (start .payload-start .ensures) (end .payload-end .ensures .0)
+    lent (a .dest) gpsType (a .buffer .now) _ _ (start .payload-start .ensures) (λ i. start .payload-start .ensures i + room .payload-room .ensures .0 i)
     (gpsImage (a .packet)) (gps-small (a .packet)) (c .to-bytes .ensures)
 
 is-address-requires : tie.Need-is-address-requires
@@ -37,8 +38,11 @@ returns c =
 payload-start-requires : tie.Need-payload-start-requires
 payload-start-requires c κs = search needs
 
-payload-end-requires : tie.Need-payload-end-requires
-payload-end-requires c κs = search needs
+payload-room-requires : tie.Need-payload-room-requires
+payload-room-requires c κs = search needs
+
+add-to : tie.Need-add-to
+add-to c = search needs
 
 sub-to-bytes : tie.Need-sub-to-bytes
 sub-to-bytes c = search needs
@@ -78,7 +82,8 @@ write-gps-spec =
     is-address-requires
     returns
     payload-start-requires
-    payload-end-requires
+    payload-room-requires
+    add-to
     sub-to-bytes
     part-to-bytes-start
     part-to-bytes-end
