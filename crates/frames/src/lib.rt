@@ -82,6 +82,13 @@ pub fn write_battery(buffer: &mut [u8], dest: u8, packet: Battery) -> Written
     if !is_address(dest) {
         return Written::Refused(Refusal::BadAddress);
     }
+    // Two arms, each of one size: the compiler tests the length once in each, and knows every place.
+    if packet.id == 0 {
+        let from = payload_start(buffer.len());
+        let to = from + payload_room(buffer.len());
+        let written = packet.to_bytes(&mut buffer[from..to]);
+        return sealed(buffer, dest, Battery::PACKET_TYPE, written);
+    }
     let from = payload_start(buffer.len());
     let to = from + payload_room(buffer.len());
     let written = packet.to_bytes(&mut buffer[from..to]);

@@ -1,4 +1,6 @@
--- `frames::write_battery` meets its contract: what the record's own writer leaves in the payload's places is framed. Assumes nothing.
+-- `frames::write_battery` meets its contract: what the record's own writer leaves in the payload's places is framed, in each arm. Assumes nothing.
+use mathlib.Core.Path.{_≡_}
+use mathlib.Core.Bool.{true}
 use Prim.Native.Nat.{_+_}
 use borrow.Author.Needs.{needs}
 use borrow.Author.Tests.{not-true, not-false}
@@ -13,18 +15,8 @@ use Rattle.frames.proofs.write_battery.Tie as tie
 abbrev Start-of : tie.Else1 → tie.Start
 Start-of c = c .before .before .before
 
-made : (c : tie.After-to-bytes)
-    → (let room = c .before .before in
-    let start = room .before in
-    let a = Start-of (start .before) .args in
-    Framed (a .dest) batteryType (a .buffer .now) (start .payload-start .result) (start .payload-start .result + room .payload-room .result)
-    (batteryImage (a .packet)) (c .to-bytes .result) (c .to-bytes .last .1 .0))
-made c =
-    let room = c .before .before in
-    let start = room .before in
-    let a = Start-of (start .before) .args in
-    lent (a .dest) batteryType (a .buffer .now) _ _ (start .payload-start .ensures) (λ i. start .payload-start .ensures i + room .payload-room .ensures .0 i)
-    (batteryImage (a .packet)) (battery-small (a .packet)) (c .to-bytes .ensures)
+good : (c : tie.Else1) → listed (Start-of c .args .dest) ≡ true
+good c = not-false (listed (Start-of c .args .dest)) (not-as (c .before .is-address .ensures) (c .if1 .left))
 
 is-address-requires : tie.Need-is-address-requires
 is-address-requires c κs = search needs
@@ -43,6 +35,21 @@ payload-room-requires c κs = search needs
 
 add-to : tie.Need-add-to
 add-to c = search needs
+
+-- ---- eight bytes
+
+made : (c : tie.After-to-bytes)
+    → (let room = c .before .before in
+    let start = room .before in
+    let a = Start-of (start .before .before .before) .args in
+    Framed (a .dest) batteryType (a .buffer .now) (start .payload-start .result) (start .payload-start .result + room .payload-room .result)
+    (batteryImage (a .packet)) (c .to-bytes .result) (c .to-bytes .last .1 .0))
+made c =
+    let room = c .before .before in
+    let start = room .before in
+    let a = Start-of (start .before .before .before) .args in
+    lent (a .dest) batteryType (a .buffer .now) _ _ (start .payload-start .ensures) (λ i. start .payload-start .ensures i + room .payload-room .ensures .0 i)
+    (batteryImage (a .packet)) (battery-small (a .packet)) (c .to-bytes .ensures)
 
 sub-to-bytes : tie.Need-sub-to-bytes
 sub-to-bytes c = search needs
@@ -69,11 +76,62 @@ returns-2 : tie.Need-returns-2
 returns-2 c =
     let framing = c .before .before in
     let record-made = framing .before .before .before .before in
-    let right = record-made .before .before .before .before in
+    let right = record-made .before .before .before .before .before .before in
     let a = Start-of right .args in
-    addressed (a .dest) batteryType (batteryImage (a .packet)) (a .buffer .now)
-    (not-false (listed (a .dest)) (not-as (right .before .is-address .ensures) (right .if1 .left)))
-    (made record-made) (framing .sealed .ensures)
+    addressed (a .dest) batteryType (batteryImage (a .packet)) (a .buffer .now) (good right) (made record-made) (framing .sealed .ensures)
+
+-- ---- nine bytes
+
+made-2 : (c : tie.After-to-bytes2)
+    → (let room = c .before .before in
+    let start = room .before in
+    let a = Start-of (start .before .before .before) .args in
+    Framed (a .dest) batteryType (a .buffer .now) (start .payload-start2 .result) (start .payload-start2 .result + room .payload-room2 .result)
+    (batteryImage (a .packet)) (c .to-bytes2 .result) (c .to-bytes2 .last .1 .0))
+made-2 c =
+    let room = c .before .before in
+    let start = room .before in
+    let a = Start-of (start .before .before .before) .args in
+    lent (a .dest) batteryType (a .buffer .now) _ _ (start .payload-start2 .ensures) (λ i. start .payload-start2 .ensures i + room .payload-room2 .ensures .0 i)
+    (batteryImage (a .packet)) (battery-small (a .packet)) (c .to-bytes2 .ensures)
+
+payload-start-requires-2 : tie.Need-payload-start-requires-2
+payload-start-requires-2 c κs = search needs
+
+payload-room-requires-2 : tie.Need-payload-room-requires-2
+payload-room-requires-2 c κs = search needs
+
+add-to-2 : tie.Need-add-to-2
+add-to-2 c = search needs
+
+sub-to-bytes-2 : tie.Need-sub-to-bytes-2
+sub-to-bytes-2 c = search needs
+
+part-to-bytes-start-2 : tie.Need-part-to-bytes-start-2
+part-to-bytes-start-2 c = search needs
+
+part-to-bytes-end-2 : tie.Need-part-to-bytes-end-2
+part-to-bytes-end-2 c = search needs
+
+to-bytes-requires-2 : tie.Need-to-bytes-requires-2
+to-bytes-requires-2 c κs = search needs
+
+sealed-requires-2 : tie.Need-sealed-requires-2
+sealed-requires-2 c κs =
+    let record-made = c .before .before .before in
+    let m = made-2 record-made in
+    (m .few, m .enough)
+
+same-length-2 : tie.Need-same-length-2
+same-length-2 c = search needs
+
+returns-3 : tie.Need-returns-3
+returns-3 c =
+    let framing = c .before .before in
+    let record-made = framing .before .before .before .before in
+    let right = record-made .before .before .before .before .before .before in
+    let a = Start-of right .args in
+    addressed (a .dest) batteryType (batteryImage (a .packet)) (a .buffer .now) (good right) (made-2 record-made) (framing .sealed2 .ensures)
 
 pub write-battery-spec : {M : Type 1} → statement M
 write-battery-spec =
@@ -90,4 +148,14 @@ write-battery-spec =
     to-bytes-requires
     sealed-requires
     same-length
-    returns-2)
+    returns-2
+    payload-start-requires-2
+    payload-room-requires-2
+    add-to-2
+    sub-to-bytes-2
+    part-to-bytes-start-2
+    part-to-bytes-end-2
+    to-bytes-requires-2
+    sealed-requires-2
+    same-length-2
+    returns-3)
