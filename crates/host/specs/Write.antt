@@ -55,19 +55,19 @@ gpsFrom latitude longitude groundspeed heading altitude satellites = record {
 abbrev pub gpsExtendedFrom : ℕ → ℤ → ℤ → ℤ → ℤ → ℤ → ℤ → ℤ → ℤ → ℕ → ℕ → ℕ → GpsExtended
 gpsExtendedFrom «fix_type» «n_speed» «e_speed» «v_speed» «h_speed_acc» «track_acc» «alt_ellipsoid» «h_acc» «v_acc»
     reserved «h_dop» «v_dop» = record {
-  «fix_type» = «fix_type»;
-  «n_speed» = «n_speed»;
-  «e_speed» = «e_speed»;
-  «v_speed» = «v_speed»;
-  «h_speed_acc» = «h_speed_acc»;
-  «track_acc» = «track_acc»;
-  «alt_ellipsoid» = «alt_ellipsoid»;
-  «h_acc» = «h_acc»;
-  «v_acc» = «v_acc»;
-  reserved = reserved;
-  «h_dop» = «h_dop»;
-  «v_dop» = «v_dop»;
-}
+      «fix_type» = «fix_type»;
+      «n_speed» = «n_speed»;
+      «e_speed» = «e_speed»;
+      «v_speed» = «v_speed»;
+      «h_speed_acc» = «h_speed_acc»;
+      «track_acc» = «track_acc»;
+      «alt_ellipsoid» = «alt_ellipsoid»;
+      «h_acc» = «h_acc»;
+      «v_acc» = «v_acc»;
+      reserved = reserved;
+      «h_dop» = «h_dop»;
+      «v_dop» = «v_dop»;
+    }
 
 abbrev pub batteryFrom : ℤ → ℤ → ℕ → ℕ → ℕ → Battery
 batteryFrom voltage current «capacity_used» remaining id = record {
