@@ -1,7 +1,6 @@
 -- What the readers for a host give: numbers copied to the front of a slice, then each record by what its reader answers.
 -- Assumes nothing.
 use mathlib.Core.Path.{_≡_, sym, ap, _∙_}
-use mathlib.Core.Bool.{_&&_}
 use mathlib.Core.List.{List, _++_}
 use Prim.Native.Nat.{ℕ, suc, _+_, _^_, _%_, _≤_, _<_}
 use native.Mathlib.Nat.{mod-eq-of-lt, min-le-right, zero-add}
@@ -9,10 +8,9 @@ use native.Mathlib.Numerals.{add-one}
 use native.Mathlib.Omega.{arith}
 use borrow.Author.Tests.{le-leb, lt-leb, leb-true}
 use lib.Dec.{eqb, leb, lit≤, lit<}
-use lib.IntN.{ℤ, pos}
-use lib.Signed.{mag}
+use lib.IntN.{ℤ}
 use lib.ListN.{length, getD, take, drop, set, length-take, take-append-drop}
-use lib.Seq.{drop-cons, set-at, append-snoc, take-suc, length-take-le, take-all, take-append-seam}
+use lib.Seq.{drop-cons, set-at, append-snoc, take-suc, length-take-le, take-append-seam}
 use Rattle.base.specs.Bytes.{Bytes}
 use Rattle.base.specs.Choice.{if_then_else_}
 use Rattle.base.specs.Parts.{part, copied}
@@ -37,7 +35,7 @@ use Rattle.rpm.specs.declared.runs.Run.{Run}
 use Rattle.rpm.specs.declared.runs.Run.the-variants as run
 use Rattle.rpm.specs.declared.Rpm.{Rpm}
 use Rattle.host_answer.specs.declared.answer.HostAnswer.{HostAnswer}
-use Rattle.host_answer.specs.Answer.{packed, answerCount, answerRefusal, answerRow}
+use Rattle.host_answer.specs.Answer.{packed, answerRefusal, answerRow}
 use Rattle.host_answer.proofs.Rows.{not-success, row-refusal}
 use Rattle.host_records.specs.Read.{given, givenAll, givenShort, gives, keptBattery, byRow, givesChannels, answerRpm, givesRpm}
 
