@@ -1,12 +1,12 @@
 -- What the writer's steps leave, head and check byte about a payload in its place, is the frame.
 -- Assumes nothing.
 use mathlib.Core.Path.{_≡_, sym, ap, _∙_}
-use mathlib.Core.List.{List, [], _∷_, _++_, append-assoc, append-nil}
-use Prim.Native.Nat.{ℕ, suc, _+_, _-_, _≤_, _<_}
+use mathlib.Core.List.{List, [], _∷_, _++_, append-assoc}
+use Prim.Native.Nat.{ℕ, suc, _+_, _≤_, _<_}
 use native.Mathlib.Nat.{zero-add}
 use native.Mathlib.Omega.{arith}
-use lib.ListN.{length, take, drop, length-append, length-drop, length-take, take-append-drop, drop-of-length-le}
-use lib.Seq.{slice, take-at, drop-at, drop-drop, take-all, length-take-le}
+use lib.ListN.{length, take, drop, length-append, take-append-drop}
+use lib.Seq.{slice, take-at, drop-at, drop-drop, length-take-le}
 use Rattle.base.specs.Parts.{part, pasted}
 use Rattle.base.proofs.Parts.{pasted-append, pasted-front, length-part}
 use Rattle.crc.specs.Remainder.{remainder}
@@ -114,20 +114,3 @@ module _ (pay : List ℕ) (n dest kind : ℕ) (long : length pay ≡ n) where
           ∙ ap (λ (l : List ℕ). pasted (pasted b 3 pay) 0 (frame dest (kind ∷ l))) there
           ∙ covered in
           rw stored (writes (frame dest (kind ∷ pay)) b (n + 4) frame-size room)
-
--- a record's own writer in the bytes behind the head puts the payload there
-pub in-place : (b pay : List ℕ) (n : ℕ) → length pay ≡ n → n + 4 ≤ length b → {row ys : List ℕ}
-    → (row, ys) ≡ writeOf (bytes pay) (take (length b - 3) (drop 3 b))
-    → take 3 b ++ (ys ++ drop (length b - 3) (drop 3 b)) ≡ pasted b 3 pay
-unfolding pasted
-in-place b pay n long room {row} {ys} e =
-    let t : List ℕ = drop 3 b in
-    let few : length t ≤ length b - 3 = omega (arith, length-drop 3 b) in
-    let all : take (length b - 3) t ≡ t = take-all (length b - 3) t few in
-    let fits : n ≤ length (take (length b - 3) t) = simp (length-take, length-drop) (omega arith) in
-    let is : ys ≡ pasted (take (length b - 3) t) 0 pay =
-    ap (λ (x : List ℕ × List ℕ). x .1) (e ∙ sym (writes pay (take (length b - 3) t) n long fits)) in
-    ap (λ (l : List ℕ). take 3 b ++ (ys ++ l)) (drop-of-length-le t few)
-    ∙ ap (λ (l : List ℕ). take 3 b ++ l)
-    (append-nil ys ∙ is ∙ ap (λ (l : List ℕ). pasted l 0 pay) all ∙ pasted-front t pay ∙ ap (λ (l : List ℕ). pay ++ l) (drop-drop (length pay) 3 b))
-    ∙ sym (append-assoc (take 3 b) pay (drop (3 + length pay) b))

@@ -1,19 +1,21 @@
 -- Each record's payload fits a frame.
 -- Assumes nothing.
-use mathlib.Core.Path.{_≡_, sym, subst, _∙_}
-use Prim.Native.Nat.{_≤_, _<_}
+use mathlib.Core.Path.{_≡_, refl, sym, subst, _∙_}
+use mathlib.Core.List.{List}
+use Prim.Native.Nat.{ℕ, _≤_, _<_}
 use mathlib.Core.Logic.{⊎-elim}
 use native.Mathlib.Omega.{arith}
 use lib.Dec.{eqb}
+use lib.IntN.{ℤ}
 use lib.ListN.{length}
 use Rattle.base.proofs.Tests.{by-test, below}
-use Rattle.writing.specs.Writing.{Image}
+use Rattle.writing.specs.Writing.{Image, bytes, refused}
 use Rattle.channels.specs.Channels.{channelsCount, firstAbove, channelBytes, channelsImage}
 use Rattle.channels.specs.declared.RcChannelsPacked.{RcChannelsPacked}
 use Rattle.channels.proofs.Laws.{image-refused, image-bytes, channels-length}
-use Rattle.rpm.specs.Rpm.{rpmMost, rpmBytes, rpmImage}
+use Rattle.rpm.specs.Rpm.{rpmMost, rpmBytes, rpmImage, newRpmImage}
 use Rattle.rpm.specs.declared.Rpm.{Rpm}
-use Rattle.rpm.proofs.RpmLaws.{rpm-image, rpm-refused, rpm-at-most}
+use Rattle.rpm.proofs.RpmLaws.{rpm-image, rpm-refused, rpm-at-most, rpm-at-least, new-at-most}
 use Rattle.layout.specs.Layout.{recordBytes}
 use Rattle.records.specs.LinkStatistics.{linkStatisticsImage}
 use Rattle.positions.specs.Gps.{gpsImage}
@@ -44,8 +46,15 @@ pub rpm-small : (r : Rpm) → Small (rpmImage r)
 rpm-small r =
     ⊎-elim
     (λ (many : rpmMost < r .count). small-as (rpm-refused r many) tt)
-    (λ (few : r .count ≤ rpmMost). small-as (rpm-image r few) (omega (arith, rpm-at-most r (rpmBytes r) (rpm-image r few))))
+    (λ (few : r .count ≤ rpmMost). small-as (rpm-image r few) (omega (arith, rpm-at-least r, rpm-at-most r (rpmBytes r) (rpm-image r few))))
     (below rpmMost (r .count))
+
+pub new-rpm-small : (id : ℕ) (vs : List ℤ) → Small (newRpmImage id vs)
+new-rpm-small id vs = by-image (newRpmImage id vs) refl
+  where
+    by-image : (image : Image) → newRpmImage id vs ≡ image → Small image
+    by-image (bytes payload) e = omega (arith, new-at-most id vs payload e)
+    by-image (refused r) e = tt
 
 pub link-statistics-small : (x : LinkStatistics) → Small (linkStatisticsImage x)
 link-statistics-small x = omega (arith, link-statistics-long x)

@@ -1,6 +1,5 @@
 pub mod Built
-pub mod Answered
+pub mod Lent
 pub mod Fits
-pub mod Payload
 pub mod Laws
 pub mod Unique

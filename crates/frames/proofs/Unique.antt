@@ -13,6 +13,7 @@ use Rattle.frames.proofs.write_gps_extended.Reads as write-gps-extended
 use Rattle.frames.proofs.write_battery.Reads as write-battery
 use Rattle.frames.proofs.write_baro_altitude.Reads as write-baro-altitude
 use Rattle.frames.proofs.write_rpm.Reads as write-rpm
+use Rattle.frames.proofs.write_rpm_values.Reads as write-rpm-values
 
 pub write-link-statistics-one : OneAnswer {Seen = Written × List ℕ} write-link-statistics.Post (λ κs r s. (r, now (s .0)))
 write-link-statistics-one κs a r r′ s s′ = one-write
@@ -34,3 +35,6 @@ write-baro-altitude-one κs a r r′ s s′ = one-write
 
 pub write-rpm-one : OneAnswer {Seen = Written × List ℕ} write-rpm.Post (λ κs r s. (r, now (s .0)))
 write-rpm-one κs a r r′ s s′ = one-write
+
+pub write-rpm-values-one : OneAnswer {Seen = Written × List ℕ} write-rpm-values.Post (λ κs r s. (r, now (s .0)))
+write-rpm-values-one κs a r r′ s s′ = one-write

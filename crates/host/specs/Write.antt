@@ -4,7 +4,7 @@ use Prim.Native.Nat.{ℕ}
 use mathlib.Core.List.{List}
 use lib.Dec.{eqb}
 use lib.IntN.{ℤ}
-use lib.ListN.{length, getD}
+use lib.ListN.{length}
 use Rattle.base.specs.Choice.{if_then_else_}
 use Rattle.packets.specs.Listed.{listed}
 use Rattle.refusals.specs.declared.Refusal.{Refusal}
@@ -18,7 +18,6 @@ use Rattle.records.specs.declared.link_statistics.LinkStatistics.{LinkStatistic
 use Rattle.records.specs.declared.battery.Battery.{Battery}
 use Rattle.records.specs.declared.baro_altitude.BaroAltitude.{BaroAltitude}
 use Rattle.channels.specs.Channels.{channelsCount, channelsImage}
-use Rattle.rpm.specs.Rpm.{rpmMade, rpmImage}
 use Rattle.frames.specs.Frames.{framed}
 use Rattle.host_answer.specs.Answer.{answers}
 
@@ -90,10 +89,6 @@ baroAltitudeFrom «altitude_packed» «vertical_speed_packed» = record {
 -- sixteen channels, or a refusal
 unfoldable pub sixteenImage : List ℕ → Image
 sixteenImage cs = if eqb (length cs) channelsCount then channelsImage (record { 0 = cs }) else refused InvalidPayloadLength
-
--- a record newly made, or a refusal
-unfoldable pub newRpmImage : ℕ → List ℤ → Image
-newRpmImage id vs = if eqb (getD (rpmMade id vs .0) 0 0) 0 then rpmImage (rpmMade id vs .1) else refused InvalidPayloadLength
 
 -- where there is no record, a bad address is refused first
 abbrev pub refusedFor : ℕ → Refusal → Written

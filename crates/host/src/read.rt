@@ -20,7 +20,6 @@ use records::battery::Battery;
 use records::battery::BatteryRead;
 use records::link_statistics::LinkStatistics;
 use records::link_statistics::LinkStatisticsRead;
-use rpm::Rpm;
 ghost use mathlib.Core.Path.{_≡_};
 ghost use Rattle.records.specs.LinkStatistics.{linkStatisticsRead};
 ghost use Rattle.positions.specs.Gps.{gpsRead};
@@ -103,11 +102,5 @@ pub extern "C" fn crsf_read_rc_channels_packed(payload: &[u8], out: &mut [u16]) 
 pub extern "C" fn crsf_read_rpm(payload: &[u8], out: &mut [i32]) -> u64
     ensures { λ r. ⌜ (r, now (out .exit)) ≡ givesRpm (rpmRead (now (payload .entry))) (now (out .entry)) ⌝ }
 {
-    let read = Rpm::from_bytes(payload);
-    let answer = read.answer;
-    let rpm = read.rpm;
-    match answer {
-        ReadAnswer::Record => give_rpm(rpm, out),
-        ReadAnswer::Refused(refusal) => refuse(refusal),
-    }
+    give_rpm(payload, out)
 }

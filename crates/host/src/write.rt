@@ -2,7 +2,6 @@
 // record that can't be written, then a buffer that is too short; nothing is written then.
 use channels::RcChannelsPacked;
 use host_answer::written::answer_written;
-use layout::ReadAnswer;
 use packets::is_address;
 use positions::gps::Gps;
 use positions::gps_extended::GpsExtended;
@@ -10,7 +9,6 @@ use records::baro_altitude::BaroAltitude;
 use records::battery::Battery;
 use records::link_statistics::LinkStatistics;
 use refusals::Refusal;
-use rpm::Rpm;
 use writing::Written;
 ghost use mathlib.Core.Path.{_≡_};
 ghost use lib.ListN.{length};
@@ -20,9 +18,9 @@ ghost use Rattle.positions.specs.GpsExtended.{gpsExtendedType, gpsExtendedImage
 ghost use Rattle.records.specs.Battery.{batteryType, batteryImage};
 ghost use Rattle.records.specs.BaroAltitude.{baroAltitudeType, baroAltitudeImage};
 ghost use Rattle.channels.specs.Channels.{channelsType, channelsCount};
-ghost use Rattle.rpm.specs.Rpm.{rpmType};
+ghost use Rattle.rpm.specs.Rpm.{rpmType, newRpmImage};
 ghost use Rattle.host.specs.Write.{linkStatisticsFrom, gpsFrom, gpsExtendedFrom, batteryFrom, baroAltitudeFrom};
-ghost use Rattle.host.specs.Write.{writes, refusedFor, sixteenImage, newRpmImage};
+ghost use Rattle.host.specs.Write.{writes, refusedFor, sixteenImage};
 
 #[no_mangle]
 pub extern "C" fn crsf_write_link_statistics(
@@ -225,11 +223,5 @@ pub extern "C" fn crsf_write_rpm(
     ensures { λ r. ⌜ (r, now (buffer .exit)) ≡ writes dest rpmType
         (newRpmImage «rpm_source_id» (now («rpm_values» .entry))) (now (buffer .entry)) ⌝ }
 {
-    let made = Rpm::new(rpm_source_id, rpm_values);
-    let answer = made.answer;
-    let rpm = made.rpm;
-    match answer {
-        ReadAnswer::Record => answer_written(frames::write_rpm(buffer, dest, rpm)),
-        ReadAnswer::Refused(refusal) => answer_written(no_record(dest, refusal)),
-    }
+    answer_written(frames::write_rpm_values(buffer, dest, rpm_source_id, rpm_values))
 }

@@ -7,11 +7,12 @@ use native.Mathlib.Nat.{mod-eq-of-lt, min-le-right, zero-add}
 use native.Mathlib.Numerals.{add-one}
 use native.Mathlib.Omega.{arith}
 use borrow.Author.Tests.{le-leb, lt-leb, leb-true}
-use lib.Dec.{leb, lit≤, lit<}
+use lib.Dec.{eqb, leb, lit≤, lit<}
 use lib.IntN.{ℤ}
 use lib.ListN.{length, getD, take, drop, set, length-take, take-append-drop}
 use lib.Seq.{drop-cons, set-at, append-snoc, take-suc, length-take-le, take-append-seam}
 use Rattle.base.specs.Bytes.{Bytes}
+use Rattle.base.specs.Choice.{if_then_else_}
 use Rattle.base.specs.Parts.{part, copied}
 use Rattle.base.proofs.Parts.{length-part, bytes-part, copied-fits}
 use Rattle.base.proofs.Tests.{by-test}
@@ -28,13 +29,15 @@ use Rattle.records.specs.Battery.{batteryValues, batteryRead}
 use Rattle.records.specs.declared.battery.Battery.{Battery}
 use Rattle.channels.specs.Channels.{channelsRead}
 use Rattle.channels.specs.declared.RcChannelsPacked.{RcChannelsPacked}
-use Rattle.rpm.specs.Runs.{wholeIn, runRead}
-use Rattle.rpm.specs.Rpm.{rpmField, rpmRead}
+use Rattle.rpm.specs.Runs.{wholeIn, runRead, runRow}
+use Rattle.rpm.specs.Rpm.{rpmField, rpmRead, rpmGiven}
+use Rattle.rpm.specs.declared.runs.Run.{Run}
+use Rattle.rpm.specs.declared.runs.Run.the-variants as run
 use Rattle.rpm.specs.declared.Rpm.{Rpm}
 use Rattle.host_answer.specs.declared.answer.HostAnswer.{HostAnswer}
-use Rattle.host_answer.specs.Answer.{packed, answerRefusal}
+use Rattle.host_answer.specs.Answer.{packed, answerRefusal, answerRow}
 use Rattle.host_answer.proofs.Rows.{not-success, row-refusal}
-use Rattle.host_records.specs.Read.{given, givenAll, givenShort, gives, keptBattery, byRow, givesChannels, runOf, givenRpm, givesRpm}
+use Rattle.host_records.specs.Read.{given, givenAll, givenShort, gives, keptBattery, byRow, givesChannels, answerRpm, givesRpm}
 
 module _ {A : Type 0} (s d : List A) where
   pub copy-more : (z : A) (i : ℕ) → i < length s → i < length d → set (take i s ++ drop i d) i (getD s i z) ≡ take (i + 1) s ++ drop (i + 1) d
@@ -96,16 +99,36 @@ few-read payload =
     (λ t. by-test (leb (wholeIn rpmField payload) 19) (λ u. simp (t, u) (leb-true _ 19 u)) (λ u. simp (t, u) (lit≤ tt)))
     (λ t. simp t (lit≤ tt))
 
-module _ (payload : List ℕ) (out : List ℤ) {a : ReadAnswer} {x : Rpm} (read : (readRow a, x) ≡ rpmRead payload) where
-  pub rpm-given : a ≡ Record → givenRpm x out ≡ givesRpm (rpmRead payload) out
-  unfolding givesRpm
-  rpm-given e =
-      let few : x .count ≤ 19 = rw (ap (λ (z : List ℕ × Rpm). z .1) read) (few-read payload) in
-      ap (λ (n : ℕ). runOf n x out) (mod-eq-of-lt (omega arith)) ∙ beside-given (λ (y : Rpm). runOf (y .count) y out) out read e
+-- what is answered of a run of values, by its row: the count has a byte
+abbrev answerRun : List ℕ → HostAnswer
+answerRun row = if eqb (getD row 0 0) 0 then answerRpm (getD row 2 0 % 256) (getD row 1 0) else answerRow row
 
-  pub rpm-refused : (r : Refusal) → a ≡ Refused r → (packed (answerRefusal r), out) ≡ givesRpm (rpmRead payload) out
-  unfolding givesRpm
-  rpm-refused = beside-refused (λ (y : Rpm). runOf (y .count) y out) out read
+abbrev answersRun : List ℕ × List ℤ → ℕ × List ℤ
+answersRun (row, out) = (packed (answerRun row), out)
+
+run-answered : (payload : List ℕ) (out : List ℤ) → answersRun (rpmGiven (rpmRead payload) out) ≡ givesRpm (rpmRead payload) out
+unfolding rpmGiven givesRpm given runRow
+run-answered payload out =
+    let x : Rpm = rpmRead payload .1 in
+    let few : x .count % 256 ≡ x .count = mod-eq-of-lt (omega (arith, few-read payload)) in
+    by-test (eqb (getD (rpmRead payload .0) 0 0) 0)
+    (λ t.
+    by-test (leb (length (take (x .count) (x .«rpm_values»))) (length out))
+    (λ u. simp (t, u, few))
+    (λ u. simp (t, u, row-refusal BufferOverflow)))
+    (λ t. simp t)
+
+module _ (payload : List ℕ) (out : List ℤ) {a : Run} {after : List ℤ} (read : (runRow a, after) ≡ rpmGiven (rpmRead payload) out) where
+  by-run : {same : Run} → a ≡ same → answersRun (runRow same, after) ≡ givesRpm (rpmRead payload) out
+  by-run e = ap (λ (s : Run). answersRun (runRow s, after)) (sym e) ∙ ap answersRun read ∙ run-answered payload out
+
+  pub rpm-given : (id n : ℕ) → a ≡ run.Numbers id n → (packed (answerRpm (n % 256) id), after) ≡ givesRpm (rpmRead payload) out
+  unfolding runRow
+  rpm-given id n = by-run
+
+  pub rpm-refused : (r : Refusal) → a ≡ run.Refused r → (packed (answerRefusal r), after) ≡ givesRpm (rpmRead payload) out
+  unfolding runRow
+  rpm-refused r e = simp (not-success r, row-refusal r) at (by-run e)
 
 -- ---- Records of fixed layouts, by what their reader decodes
 

@@ -57,10 +57,6 @@ answerRpm n id = record { number = 0; taken = 0; in_state = 0; at = 0; len = n; 
 abbrev pub runOf : ℕ → Rpm → List ℤ → ℕ × List ℤ
 runOf n x out = given (answerRpm n (x .«rpm_source_id»)) (take (x .count) (x .«rpm_values»)) out
 
--- whatever the count of a record, the answer has its low byte
-abbrev pub givenRpm : Rpm → List ℤ → ℕ × List ℤ
-givenRpm x out = runOf (x .count % 256) x out
-
 -- a record that was read has at most 19 values: the answer has the count itself
 unfoldable pub givesRpm : List ℕ × Rpm → List ℤ → ℕ × List ℤ
 givesRpm read out = byRow (read .0) (runOf (read .1 .count) (read .1) out) out

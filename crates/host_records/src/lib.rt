@@ -13,7 +13,7 @@ use records::baro_altitude::BaroAltitude;
 use records::battery::Battery;
 use records::link_statistics::LinkStatistics;
 use refusals::Refusal;
-use rpm::Rpm;
+use rpm::runs::Run;
 ghost use mathlib.Core.Path.{_≡_};
 ghost use mathlib.Core.List.{_++_};
 ghost use Prim.Native.Nat.{_≤_};
@@ -23,7 +23,8 @@ ghost use Rattle.positions.specs.GpsExtended.{gpsExtendedValues};
 ghost use Rattle.records.specs.LinkStatistics.{linkStatisticsValues};
 ghost use Rattle.records.specs.Battery.{batteryValues};
 ghost use Rattle.records.specs.BaroAltitude.{baroAltitudeValues};
-ghost use Rattle.host_records.specs.Read.{given, givenShort, givenAll, keptBattery, answerRpm, givenRpm};
+ghost use Rattle.rpm.specs.Rpm.{rpmRead};
+ghost use Rattle.host_records.specs.Read.{given, givenShort, givenAll, keptBattery, answerRpm, givesRpm};
 
 // How many values the first n are: n, or all that there are.
 fn at_most(values: &[i32], n: usize) -> usize
@@ -202,10 +203,13 @@ fn answer_rpm(n: u8, id: u8) -> HostAnswer
     }
 }
 
-pub fn give_rpm(x: Rpm, out: &mut [i32]) -> u64
-    ensures { λ r. ⌜ (r, now (out .exit)) ≡ givenRpm x (now (out .entry)) ⌝ }
+// The values of an RPM payload go straight to the slice.
+pub fn give_rpm(payload: &[u8], out: &mut [i32]) -> u64
+    ensures { λ r. ⌜ (r, now (out .exit)) ≡ givesRpm (rpmRead (now (payload .entry))) (now (out .entry)) ⌝ }
 {
-    let n = x.count;
-    let values = x.rpm_values;
-    give(answer_rpm(narrow(n), x.rpm_source_id), &values, n, out)
+    let run = rpm::read_values(payload, out);
+    match run {
+        Run::Numbers(id, n) => pack(answer_rpm(narrow(n), id)),
+        Run::Refused(refusal) => refuse(refusal),
+    }
 }

@@ -1,44 +1,61 @@
--- `frames::write_battery` meets its contract: the record is written in its place, and framed there. Assumes nothing.
-use mathlib.Core.Path.{sym, _∙_}
-use Prim.Native.Nat.{ℕ}
-use native.Mathlib.Omega.{arith}
+-- `frames::write_battery` meets its contract: what the record's own writer leaves in the payload's places is framed, in each arm. Assumes nothing.
+use mathlib.Core.Path.{_≡_}
+use mathlib.Core.Bool.{true}
+use Prim.Native.Nat.{_+_}
 use borrow.Author.Needs.{needs}
-use lib.ListN.{length}
-use Rattle.writing.specs.declared.Written.the-variants.{Wrote}
+use borrow.Author.Tests.{not-true, not-false}
+use Rattle.base.proofs.Tests.{not-as}
+use Rattle.packets.specs.Listed.{listed}
 use Rattle.records.specs.Battery.{batteryType, batteryImage}
-use Rattle.records.proofs.BatteryLaws.{battery-long}
-use Rattle.frames.proofs.Answered.{Goes, goes, refused-frame, record-written}
+use Rattle.frames.proofs.Lent.{Framed, lent, unlisted, addressed}
+use Rattle.frames.proofs.Fits.{battery-small}
 use Rattle.frames.proofs.write_battery.Statement.{statement}
 use Rattle.frames.proofs.write_battery.Tie as tie
 
-abbrev Start-of : tie.After-answer-for → tie.Start
+abbrev Start-of : tie.Else1 → tie.Start
 Start-of c = c .before .before .before
 
--- eight bytes, or nine with an id
-abbrev size : tie.After-answer-for → ℕ
-size c = c .before .battery-size .result
+good : (c : tie.Else1) → listed (Start-of c .args .dest) ≡ true
+good c = not-false (listed (Start-of c .args .dest)) (not-as (c .before .is-address .ensures) (c .if1 .left))
 
-go : (c : tie.After-answer)
-    → (let a = Start-of (c .before .before) .args in Goes (a .dest) (Wrote (size (c .before .before))) (length (a .buffer .now)))
-go c =
-    let call = c .before .before in
-    let a = Start-of call .args in
-    goes (a .dest) (Wrote (size call)) (length (a .buffer .now)) (call .answer-for .ensures) (c .answer .given .1)
+is-address-requires : tie.Need-is-address-requires
+is-address-requires c κs = search needs
 
-battery-size-requires : tie.Need-battery-size-requires
-battery-size-requires c κs = search needs
+returns : tie.Need-returns
+returns c =
+    let a = c .before .before .before .args in
+    unlisted (a .dest) batteryType (batteryImage (a .packet)) (a .buffer .now)
+    (not-true (listed (a .dest)) (not-as (c .before .is-address .ensures) (c .if1 .taken)))
 
-answer-for-requires : tie.Need-answer-for-requires
-answer-for-requires c κs = search needs
+payload-start-requires : tie.Need-payload-start-requires
+payload-start-requires c κs = search needs
 
-enum-known-answer : tie.Need-enum-known-answer
-enum-known-answer c = search needs
+payload-room-requires : tie.Need-payload-room-requires
+payload-room-requires c κs = search needs
+
+add-to : tie.Need-add-to
+add-to c = search needs
+
+-- ---- eight bytes
+
+made : (c : tie.After-to-bytes)
+    → (let room = c .before .before in
+    let start = room .before in
+    let a = Start-of (start .before .before .before) .args in
+    Framed (a .dest) batteryType (a .buffer .now) (start .payload-start .result) (start .payload-start .result + room .payload-room .result)
+    (batteryImage (a .packet)) (c .to-bytes .result) (c .to-bytes .last .1 .0))
+made c =
+    let room = c .before .before in
+    let start = room .before in
+    let a = Start-of (start .before .before .before) .args in
+    lent (a .dest) batteryType (a .buffer .now) _ _ (start .payload-start .ensures) (λ i. start .payload-start .ensures i + room .payload-room .ensures .0 i)
+    (batteryImage (a .packet)) (battery-small (a .packet)) (c .to-bytes .ensures)
 
 sub-to-bytes : tie.Need-sub-to-bytes
-sub-to-bytes c = omega (arith, go (c .before) .enough)
+sub-to-bytes c = search needs
 
 part-to-bytes-start : tie.Need-part-to-bytes-start
-part-to-bytes-start c = omega (arith, go (c .before) .enough)
+part-to-bytes-start c = search needs
 
 part-to-bytes-end : tie.Need-part-to-bytes-end
 part-to-bytes-end c = search needs
@@ -46,51 +63,99 @@ part-to-bytes-end c = search needs
 to-bytes-requires : tie.Need-to-bytes-requires
 to-bytes-requires c κs = search needs
 
-seal-requires : tie.Need-seal-requires
-seal-requires c κs =
+sealed-requires : tie.Need-sealed-requires
+sealed-requires c κs =
     let record-made = c .before .before .before in
-    let wrote = record-made .before .before .before in
-    let enough = go wrote .enough in
-    search needs
-
-enum-known-answer-2 : tie.Need-enum-known-answer-2
-enum-known-answer-2 c = search needs
+    let m = made record-made in
+    (m .few, m .enough)
 
 same-length : tie.Need-same-length
 same-length c = search needs
 
-returns : tie.Need-returns
-returns c =
-    let framing = c .before .before in
-    let record-made = framing .before .before .before .before in
-    let wrote = record-made .before .before .before in
-    let call = wrote .before .before in
-    let a = Start-of call .args in
-    record-written (a .dest) batteryType (Wrote (size call)) _ (battery-long (a .packet) ∙ sym (call .before .battery-size .ensures .0))
-    (a .buffer .now) (call .answer-for .ensures) (wrote .answer .given .1) (record-made .to-bytes .ensures) (framing .seal .ensures)
-
 returns-2 : tie.Need-returns-2
 returns-2 c =
-    let refusal = c .before in
-    let call = refusal .before .before in
-    let a = Start-of call .args in
-    refused-frame (a .dest) batteryType (a .buffer .now) (Wrote (size call)) (batteryImage (a .packet))
-    (battery-long (a .packet) ∙ sym (call .before .battery-size .ensures .0))
-    (call .answer-for .ensures) (refusal .answer2 .given .1)
+    let framing = c .before .before in
+    let record-made = framing .before .before .before .before in
+    let right = record-made .before .before .before .before .before .before in
+    let a = Start-of right .args in
+    addressed (a .dest) batteryType (batteryImage (a .packet)) (a .buffer .now) (good right) (made record-made) (framing .sealed .ensures)
+
+-- ---- nine bytes
+
+made-2 : (c : tie.After-to-bytes2)
+    → (let room = c .before .before in
+    let start = room .before in
+    let a = Start-of (start .before .before .before) .args in
+    Framed (a .dest) batteryType (a .buffer .now) (start .payload-start2 .result) (start .payload-start2 .result + room .payload-room2 .result)
+    (batteryImage (a .packet)) (c .to-bytes2 .result) (c .to-bytes2 .last .1 .0))
+made-2 c =
+    let room = c .before .before in
+    let start = room .before in
+    let a = Start-of (start .before .before .before) .args in
+    lent (a .dest) batteryType (a .buffer .now) _ _ (start .payload-start2 .ensures) (λ i. start .payload-start2 .ensures i + room .payload-room2 .ensures .0 i)
+    (batteryImage (a .packet)) (battery-small (a .packet)) (c .to-bytes2 .ensures)
+
+payload-start-requires-2 : tie.Need-payload-start-requires-2
+payload-start-requires-2 c κs = search needs
+
+payload-room-requires-2 : tie.Need-payload-room-requires-2
+payload-room-requires-2 c κs = search needs
+
+add-to-2 : tie.Need-add-to-2
+add-to-2 c = search needs
+
+sub-to-bytes-2 : tie.Need-sub-to-bytes-2
+sub-to-bytes-2 c = search needs
+
+part-to-bytes-start-2 : tie.Need-part-to-bytes-start-2
+part-to-bytes-start-2 c = search needs
+
+part-to-bytes-end-2 : tie.Need-part-to-bytes-end-2
+part-to-bytes-end-2 c = search needs
+
+to-bytes-requires-2 : tie.Need-to-bytes-requires-2
+to-bytes-requires-2 c κs = search needs
+
+sealed-requires-2 : tie.Need-sealed-requires-2
+sealed-requires-2 c κs =
+    let record-made = c .before .before .before in
+    let m = made-2 record-made in
+    (m .few, m .enough)
+
+same-length-2 : tie.Need-same-length-2
+same-length-2 c = search needs
+
+returns-3 : tie.Need-returns-3
+returns-3 c =
+    let framing = c .before .before in
+    let record-made = framing .before .before .before .before in
+    let right = record-made .before .before .before .before .before .before in
+    let a = Start-of right .args in
+    addressed (a .dest) batteryType (batteryImage (a .packet)) (a .buffer .now) (good right) (made-2 record-made) (framing .sealed2 .ensures)
 
 pub write-battery-spec : {M : Type 1} → statement M
 write-battery-spec =
     tie.close
     (tie.spec
-    battery-size-requires
-    answer-for-requires
-    enum-known-answer
+    is-address-requires
+    returns
+    payload-start-requires
+    payload-room-requires
+    add-to
     sub-to-bytes
     part-to-bytes-start
     part-to-bytes-end
     to-bytes-requires
-    seal-requires
-    enum-known-answer-2
+    sealed-requires
     same-length
-    returns
-    returns-2)
+    returns-2
+    payload-start-requires-2
+    payload-room-requires-2
+    add-to-2
+    sub-to-bytes-2
+    part-to-bytes-start-2
+    part-to-bytes-end-2
+    to-bytes-requires-2
+    sealed-requires-2
+    same-length-2
+    returns-3)

@@ -1,36 +1,54 @@
--- `frames::write_link_statistics` meets its contract: the record is written in its place, and framed there. Assumes nothing.
-use native.Mathlib.Omega.{arith}
+-- `frames::write_link_statistics` meets its contract: what the record's own writer leaves in the payload's places is framed. Assumes nothing.
+use Prim.Native.Nat.{_+_}
 use borrow.Author.Needs.{needs}
-use lib.ListN.{length}
-use Rattle.writing.specs.declared.Written.the-variants.{Wrote}
-use Rattle.layout.specs.Layout.{sizeOf}
-use Rattle.records.specs.LinkStatistics.{linkStatisticsType, linkStatisticsLayout, linkStatisticsImage}
-use Rattle.records.proofs.Laws.{link-statistics-long}
-use Rattle.frames.proofs.Answered.{Goes, goes, refused-frame, record-written}
+use borrow.Author.Tests.{not-true, not-false}
+use Rattle.base.proofs.Tests.{not-as}
+use Rattle.packets.specs.Listed.{listed}
+use Rattle.records.specs.LinkStatistics.{linkStatisticsType, linkStatisticsImage}
+use Rattle.frames.proofs.Lent.{Framed, lent, unlisted, addressed}
+use Rattle.frames.proofs.Fits.{link-statistics-small}
 use Rattle.frames.proofs.write_link_statistics.Statement.{statement}
 use Rattle.frames.proofs.write_link_statistics.Tie as tie
 
-abbrev Start-of : tie.After-answer-for → tie.Start
-Start-of c = c .before .before
+abbrev Start-of : tie.Else1 → tie.Start
+Start-of c = c .before .before .before
 
-go : (c : tie.After-answer)
-    → (let a = Start-of (c .before .before) .args in Goes (a .dest) (Wrote (sizeOf linkStatisticsLayout)) (length (a .buffer .now)))
-go c =
-    let call = c .before .before in
-    let a = Start-of call .args in
-    goes (a .dest) (Wrote (sizeOf linkStatisticsLayout)) (length (a .buffer .now)) (call .answer-for .ensures) (c .answer .given .1)
+made : (c : tie.After-to-bytes)
+    → (let room = c .before .before in
+    let start = room .before in
+    let a = Start-of (start .before) .args in
+    Framed (a .dest) linkStatisticsType (a .buffer .now) (start .payload-start .result) (start .payload-start .result + room .payload-room .result)
+    (linkStatisticsImage (a .packet)) (c .to-bytes .result) (c .to-bytes .last .1 .0))
+made c =
+    let room = c .before .before in
+    let start = room .before in
+    let a = Start-of (start .before) .args in
+    lent (a .dest) linkStatisticsType (a .buffer .now) _ _ (start .payload-start .ensures) (λ i. start .payload-start .ensures i + room .payload-room .ensures .0 i)
+    (linkStatisticsImage (a .packet)) (link-statistics-small (a .packet)) (c .to-bytes .ensures)
 
-answer-for-requires : tie.Need-answer-for-requires
-answer-for-requires c κs = search needs
+is-address-requires : tie.Need-is-address-requires
+is-address-requires c κs = search needs
 
-enum-known-answer : tie.Need-enum-known-answer
-enum-known-answer c = search needs
+returns : tie.Need-returns
+returns c =
+    let a = c .before .before .before .args in
+    unlisted (a .dest) linkStatisticsType (linkStatisticsImage (a .packet)) (a .buffer .now)
+    (not-true (listed (a .dest)) (not-as (c .before .is-address .ensures) (c .if1 .taken)))
+
+payload-start-requires : tie.Need-payload-start-requires
+payload-start-requires c κs = search needs
+
+payload-room-requires : tie.Need-payload-room-requires
+payload-room-requires c κs = search needs
+
+add-to : tie.Need-add-to
+add-to c = search needs
 
 sub-to-bytes : tie.Need-sub-to-bytes
-sub-to-bytes c = omega (arith, go (c .before) .enough)
+sub-to-bytes c = search needs
 
 part-to-bytes-start : tie.Need-part-to-bytes-start
-part-to-bytes-start c = omega (arith, go (c .before) .enough)
+part-to-bytes-start c = search needs
 
 part-to-bytes-end : tie.Need-part-to-bytes-end
 part-to-bytes-end c = search needs
@@ -38,50 +56,38 @@ part-to-bytes-end c = search needs
 to-bytes-requires : tie.Need-to-bytes-requires
 to-bytes-requires c κs = search needs
 
-seal-requires : tie.Need-seal-requires
-seal-requires c κs =
+sealed-requires : tie.Need-sealed-requires
+sealed-requires c κs =
     let record-made = c .before .before .before in
-    let wrote = record-made .before .before .before in
-    let enough = go wrote .enough in
-    search needs
-
-enum-known-answer-2 : tie.Need-enum-known-answer-2
-enum-known-answer-2 c = search needs
+    let m = made record-made in
+    (m .few, m .enough)
 
 same-length : tie.Need-same-length
 same-length c = search needs
 
-returns : tie.Need-returns
-returns c =
-    let framing = c .before .before in
-    let record-made = framing .before .before .before .before in
-    let wrote = record-made .before .before .before in
-    let call = wrote .before .before in
-    let a = Start-of call .args in
-    record-written (a .dest) linkStatisticsType (Wrote (sizeOf linkStatisticsLayout)) _ (link-statistics-long (a .packet))
-    (a .buffer .now) (call .answer-for .ensures) (wrote .answer .given .1) (record-made .to-bytes .ensures) (framing .seal .ensures)
-
 returns-2 : tie.Need-returns-2
 returns-2 c =
-    let refusal = c .before in
-    let call = refusal .before .before in
-    let a = Start-of call .args in
-    refused-frame (a .dest) linkStatisticsType (a .buffer .now) (Wrote (sizeOf linkStatisticsLayout)) (linkStatisticsImage (a .packet))
-    (link-statistics-long (a .packet))
-    (call .answer-for .ensures) (refusal .answer2 .given .1)
+    let framing = c .before .before in
+    let record-made = framing .before .before .before .before in
+    let right = record-made .before .before .before .before in
+    let a = Start-of right .args in
+    addressed (a .dest) linkStatisticsType (linkStatisticsImage (a .packet)) (a .buffer .now)
+    (not-false (listed (a .dest)) (not-as (right .before .is-address .ensures) (right .if1 .left)))
+    (made record-made) (framing .sealed .ensures)
 
 pub write-link-statistics-spec : {M : Type 1} → statement M
 write-link-statistics-spec =
     tie.close
     (tie.spec
-    answer-for-requires
-    enum-known-answer
+    is-address-requires
+    returns
+    payload-start-requires
+    payload-room-requires
+    add-to
     sub-to-bytes
     part-to-bytes-start
     part-to-bytes-end
     to-bytes-requires
-    seal-requires
-    enum-known-answer-2
+    sealed-requires
     same-length
-    returns
     returns-2)

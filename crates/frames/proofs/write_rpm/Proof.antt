@@ -1,56 +1,93 @@
--- `frames::write_rpm` meets its contract: the payload's places hold the record's image. Assumes nothing.
-use mathlib.Core.Path.{refl, ap, _∙_}
+-- `frames::write_rpm` meets its contract: what the record's own writer leaves in the payload's places is framed. Assumes nothing.
+use Prim.Native.Nat.{_+_}
 use borrow.Author.Needs.{needs}
-use lib.ListN.{replicate}
+use borrow.Author.Tests.{not-true, not-false}
+use Rattle.base.proofs.Tests.{not-as}
+use Rattle.packets.specs.Listed.{listed}
 use Rattle.rpm.specs.Rpm.{rpmType, rpmImage}
-use Rattle.writing.specs.Writing.{Image, writeOf}
-use Rattle.frames.specs.Frames.{framed, mostPayload}
-use Rattle.frames.proofs.Payload.{Back, back}
+use Rattle.frames.proofs.Lent.{Framed, lent, unlisted, addressed}
 use Rattle.frames.proofs.Fits.{rpm-small}
 use Rattle.frames.proofs.write_rpm.Statement.{statement}
 use Rattle.frames.proofs.write_rpm.Tie as tie
 
-abbrev Start-of : tie.After-to-bytes → tie.Start
+abbrev Start-of : tie.Else1 → tie.Start
 Start-of c = c .before .before .before
 
 made : (c : tie.After-to-bytes)
-    → (let packet = Start-of c .args .packet in Back (rpmImage packet) (c .to-bytes .result) (c .to-bytes .last .1 .0))
+    → (let room = c .before .before in
+    let start = room .before in
+    let a = Start-of (start .before) .args in
+    Framed (a .dest) rpmType (a .buffer .now) (start .payload-start .result) (start .payload-start .result + room .payload-room .result)
+    (rpmImage (a .packet)) (c .to-bytes .result) (c .to-bytes .last .1 .0))
 made c =
-    let packet = Start-of c .args .packet in
-    back (rpmImage packet) (replicate mostPayload 0) refl (rpm-small packet) (c .to-bytes .ensures)
+    let room = c .before .before in
+    let start = room .before in
+    let a = Start-of (start .before) .args in
+    lent (a .dest) rpmType (a .buffer .now) _ _ (start .payload-start .ensures) (λ i. start .payload-start .ensures i + room .payload-room .ensures .0 i)
+    (rpmImage (a .packet)) (rpm-small (a .packet)) (c .to-bytes .ensures)
 
-slice-aggregate-to-bytes : tie.Need-slice-aggregate-to-bytes
-slice-aggregate-to-bytes c = search needs
+is-address-requires : tie.Need-is-address-requires
+is-address-requires c κs = search needs
+
+returns : tie.Need-returns
+returns c =
+    let a = c .before .before .before .args in
+    unlisted (a .dest) rpmType (rpmImage (a .packet)) (a .buffer .now)
+    (not-true (listed (a .dest)) (not-as (c .before .is-address .ensures) (c .if1 .taken)))
+
+payload-start-requires : tie.Need-payload-start-requires
+payload-start-requires c κs = search needs
+
+payload-room-requires : tie.Need-payload-room-requires
+payload-room-requires c κs = search needs
+
+add-to : tie.Need-add-to
+add-to c = search needs
+
+sub-to-bytes : tie.Need-sub-to-bytes
+sub-to-bytes c = search needs
+
+part-to-bytes-start : tie.Need-part-to-bytes-start
+part-to-bytes-start c = search needs
+
+part-to-bytes-end : tie.Need-part-to-bytes-end
+part-to-bytes-end c = search needs
 
 to-bytes-requires : tie.Need-to-bytes-requires
 to-bytes-requires c κs = search needs
 
-slice-aggregate-write-frame : tie.Need-slice-aggregate-write-frame
-slice-aggregate-write-frame c = search needs
-
-write-frame-requires : tie.Need-write-frame-requires
-write-frame-requires c κs =
+sealed-requires : tie.Need-sealed-requires
+sealed-requires c κs =
     let record-made = c .before .before .before in
     let m = made record-made in
-    (m .few, m .there)
+    (m .few, m .enough)
 
 same-length : tie.Need-same-length
 same-length c = search needs
 
-returns : tie.Need-returns
-returns c =
+returns-2 : tie.Need-returns-2
+returns-2 c =
     let framing = c .before .before in
     let record-made = framing .before .before .before .before in
-    let a = Start-of record-made .args in
-    framing .write-frame .ensures ∙ ap (λ (i : Image). writeOf (framed (a .dest) rpmType i) (a .buffer .now)) (made record-made .same)
+    let right = record-made .before .before .before .before in
+    let a = Start-of right .args in
+    addressed (a .dest) rpmType (rpmImage (a .packet)) (a .buffer .now)
+    (not-false (listed (a .dest)) (not-as (right .before .is-address .ensures) (right .if1 .left)))
+    (made record-made) (framing .sealed .ensures)
 
 pub write-rpm-spec : {M : Type 1} → statement M
 write-rpm-spec =
     tie.close
     (tie.spec
-    slice-aggregate-to-bytes
+    is-address-requires
+    returns
+    payload-start-requires
+    payload-room-requires
+    add-to
+    sub-to-bytes
+    part-to-bytes-start
+    part-to-bytes-end
     to-bytes-requires
-    slice-aggregate-write-frame
-    write-frame-requires
+    sealed-requires
     same-length
-    returns)
+    returns-2)

@@ -1,54 +1,16 @@
 -- `host::read::crsf_read_rpm` meets its contract. Assumes nothing.
-use mathlib.Core.Path.{ap, _∙_}
-use Prim.Native.Nat.{ℕ}
-use Rattle.host_records.proofs.Given.{rpm-given, rpm-refused}
 use borrow.Author.Needs.{needs}
 use Rattle.host.proofs.read.crsf_read_rpm.Statement.{statement}
 use Rattle.host.proofs.read.crsf_read_rpm.Tie as tie
 
-from-bytes-requires : tie.Need-from-bytes-requires
-from-bytes-requires c κs = search needs
-
-enum-told : tie.Need-enum-told
-enum-told c = search needs
-
 give-rpm-requires : tie.Need-give-rpm-requires
 give-rpm-requires c κs = search needs
-
-enum-known-answer : tie.Need-enum-known-answer
-enum-known-answer c = search needs
-
-refuse-requires : tie.Need-refuse-requires
-refuse-requires c κs = search needs
 
 same-length : tie.Need-same-length
 same-length c = search needs
 
 returns : tie.Need-returns
-returns c =
-    let gave = c .before in
-    let known = gave .before .before in
-    let read = known .before .before .before in
-    let a = read .before .before .args in
-    gave .give-rpm .ensures ∙ rpm-given (a .payload .now) (a .out .now) (read .from-bytes .ensures) (known .enum-told .given .1)
-
-returns-2 : tie.Need-returns-2
-returns-2 c =
-    let known = c .before .before in
-    let read = known .before .before .before in
-    let a = read .before .before .args in
-    ap (λ (r : ℕ). (r, a .out .now)) (c .refuse .ensures)
-    ∙ rpm-refused (a .payload .now) (a .out .now) (read .from-bytes .ensures) (known .answer .given .0 .0) (known .answer .given .1)
+returns c = c .before .give-rpm .ensures
 
 pub crsf-read-rpm-spec : {M : Type 1} → statement M
-crsf-read-rpm-spec =
-    tie.close
-    (tie.spec
-    from-bytes-requires
-    enum-told
-    give-rpm-requires
-    enum-known-answer
-    refuse-requires
-    same-length
-    returns
-    returns-2)
+crsf-read-rpm-spec = tie.close (tie.spec give-rpm-requires same-length returns)

@@ -1,0 +1,140 @@
+-- The one law of the frame writers: the record's own writer is lent the payload's places of the buffer, behind the head and before the check byte;
+-- what it leaves there is framed, or its refusal is passed on and every byte kept.
+-- Assumes nothing.
+use mathlib.Core.Path.{_≡_, refl, sym, ap, subst, _∙_}
+use mathlib.Core.Bool.{true, false}
+use mathlib.Core.List.{List, _++_, append-assoc}
+use mathlib.Core.Logic.{⊎-elim}
+use Prim.Native.Nat.{ℕ, _+_, _-_, _≤_, _<_}
+use native.Mathlib.Omega.{arith}
+use borrow.Author.Tests.{le-leb, lt-leb}
+use lib.ListN.{length, take, drop, length-drop, take-append-drop}
+use lib.Seq.{length-take-le, drop-append-le, drop-drop}
+use Rattle.base.specs.Parts.{pasted}
+use Rattle.base.proofs.Parts.{pasted-front, length-pasted}
+use Rattle.base.proofs.Tests.{below}
+use Rattle.packets.specs.Listed.{listed}
+use Rattle.reading.specs.Reading.{limit}
+use Rattle.refusals.specs.declared.Refusal.{Refusal}
+use Rattle.refusals.specs.declared.Refusal.the-variants.{BufferOverflow, BadAddress}
+use Rattle.writing.specs.Writing.{Image, bytes, refused, writtenRow, writeOf}
+use Rattle.writing.specs.declared.Written.{Written}
+use Rattle.writing.specs.declared.Written.the-variants.{Wrote, Refused}
+use Rattle.writing.proofs.Writing.{writes, overflows, refuses}
+use Rattle.writing.proofs.Rows.{one-write}
+use Rattle.frames.specs.Frames.{framedBody, framed, payloadStart, Small, wholeIn, sealedOf}
+use Rattle.frames.proofs.Built.{short, sealed}
+
+-- ---- the payload's places
+
+pub start-short : (len : ℕ) → len < 4 → payloadStart len ≡ 0
+unfolding payloadStart
+start-short len h = simp (lt-leb 4 len h)
+
+pub start-long : (len : ℕ) → 4 ≤ len → payloadStart len ≡ 3
+unfolding payloadStart
+start-long len h = simp (le-leb 4 len h)
+
+within : (len : ℕ) → payloadStart len + (len - 4) ≤ len
+within len =
+    ⊎-elim
+    (λ (few : len < 4). omega (arith, start-short len few))
+    (λ (enough : 4 ≤ len). omega (arith, start-long len enough))
+    (below len 4)
+
+-- the places lent, and the buffer with these bytes in them
+abbrev places : List ℕ → ℕ → ℕ → List ℕ
+places b from to = take (to - from) (drop from b)
+
+abbrev around : List ℕ → ℕ → ℕ → List ℕ → List ℕ
+around b from to ys = take from b ++ (ys ++ drop (to - from) (drop from b))
+
+module _ (b : List ℕ) (from to : ℕ) where
+  kept : around b from to (places b from to) ≡ b
+  kept = ap (λ (l : List ℕ). take from b ++ l) (take-append-drop (to - from) (drop from b)) ∙ take-append-drop from b
+
+  put-there : (pay : List ℕ) → length pay ≤ length (places b from to) → around b from to (pasted (places b from to) 0 pay) ≡ pasted b from pay
+  unfolding pasted
+  put-there pay room =
+      let t : List ℕ = drop from b in
+      let k : ℕ = to - from in
+      ap (λ (l : List ℕ). take from b ++ (l ++ drop k t)) (pasted-front (take k t) pay)
+      ∙ ap (λ (l : List ℕ). take from b ++ l)
+      (append-assoc pay (drop (length pay) (take k t)) (drop k t)
+      ∙ ap (λ (l : List ℕ). pay ++ l)
+      (sym (drop-append-le (length pay) (take k t) (drop k t) room) ∙ ap (drop (length pay)) (take-append-drop k t) ∙ drop-drop (length pay) from b))
+      ∙ sym (append-assoc (take from b) pay (drop (from + length pay) b))
+
+-- ---- the law
+
+-- what the record's own writer answered and left may be framed, and that is the frame to write
+pub record Framed (dest kind : ℕ) (b : List ℕ) (from to : ℕ) (image : Image) (w : Written) (ys : List ℕ) : Type 0 where
+  pub few : wholeIn w ≤ limit
+  pub enough : wholeIn w ≤ length (around b from to ys)
+  pub is : (r : Written) (after : List ℕ) → _≡_ {A = Written × List ℕ} (r, after) (sealedOf dest kind w (around b from to ys))
+      → (writtenRow r, after) ≡ writeOf (framedBody dest kind image) b
+
+module _ (dest kind : ℕ) (b : List ℕ) (from to : ℕ) (starts : from ≡ payloadStart (length b)) (ends : to ≡ payloadStart (length b) + (length b - 4)) where
+  abbrev Fr : Image → Written → List ℕ → Type 0
+  Fr image w ys = Framed dest kind b from to image w ys
+
+  places-length : length (places b from to) ≡ length b - 4
+  places-length =
+      let inside = within (length b) in
+      let fits : to - from ≤ length (drop from b) = rw length-drop (omega arith) in
+      length-take-le (to - from) (drop from b) fits ∙ omega arith
+
+  again : {image : Image} {w w′ : Written} {ys ys′ : List ℕ} → _≡_ {A = Written × List ℕ} (w, ys) (w′, ys′) → Fr image w′ ys′ → Fr image w ys
+  again {image} e f = subst (λ (x : Written × List ℕ). Fr image (x .0) (x .1)) (sym e) f
+
+  -- a refusal is passed on
+  passed : (image : Image) (r : Refusal) → (writtenRow (Refused r), b) ≡ writeOf (framedBody dest kind image) b → Fr image (Refused r) (places b from to)
+  unfolding sealedOf
+  passed image r h = record {
+    few = omega arith;
+    enough = omega arith;
+    is = λ answer after q.
+        ap (λ (x : Written × List ℕ). (writtenRow (x .0), x .1)) q ∙ ap (λ (l : List ℕ). (writtenRow (Refused r), l)) (kept b from to) ∙ h;
+  }
+
+  wrote : (pay : List ℕ) → length pay ≤ 60 → length pay + 4 ≤ length b
+      → Fr (bytes pay) (Wrote (length pay)) (pasted (places b from to) 0 pay)
+  unfolding sealedOf
+  wrote pay small room =
+      let there : around b from to (pasted (places b from to) 0 pay) ≡ pasted b 3 pay =
+      put-there b from to pay (omega (arith, places-length)) ∙ ap (λ (k : ℕ). pasted b k pay) (starts ∙ start-long (length b) (omega arith)) in
+      let long : length (pasted b 3 pay) ≡ length b = length-pasted b 3 pay (omega arith) in
+      record {
+        few = omega arith;
+        enough = rw there (omega arith);
+        is = λ answer after q.
+            ap (λ (x : Written × List ℕ). (writtenRow (x .0), x .1)) q ∙ sealed pay (length pay) dest kind refl b room there refl;
+      }
+
+  as-refused : (r : Refusal) → (writtenRow (Refused r), b) ≡ writeOf (framedBody dest kind (refused r)) b
+  unfolding framedBody
+  as-refused r = refuses r b
+
+  pub lent : (image : Image) {w : Written} {ys : List ℕ} → Small image → (writtenRow w, ys) ≡ writeOf image (places b from to) → Fr image w ys
+  lent (bytes pay) small e =
+      ⊎-elim
+      (λ (less : length b < length pay + 4).
+      again (one-write e (overflows pay (places b from to) (length pay) refl (omega (arith, places-length, small .0))))
+      (passed (bytes pay) BufferOverflow (short pay (length pay) dest kind refl b less)))
+      (λ (room : length pay + 4 ≤ length b).
+      again (one-write e (writes pay (places b from to) (length pay) refl (omega (arith, places-length)))) (wrote pay (small .1) room))
+      (below (length b) (length pay + 4))
+  lent (refused r) small e = again (one-write e (refuses r (places b from to))) (passed (refused r) r (as-refused r))
+
+-- ---- the address is tested first
+
+module _ (dest kind : ℕ) (image : Image) (b : List ℕ) where
+  pub unlisted : listed dest ≡ false → (writtenRow (Refused BadAddress), b) ≡ writeOf (framed dest kind image) b
+  unfolding framed
+  unlisted none = rw none (refuses BadAddress b)
+
+  pub addressed : {from to : ℕ} {w : Written} {ys : List ℕ} → listed dest ≡ true → Framed dest kind b from to image w ys
+      → {r : Written} {after : List ℕ} → _≡_ {A = Written × List ℕ} (r, after) (sealedOf dest kind w (around b from to ys))
+      → (writtenRow r, after) ≡ writeOf (framed dest kind image) b
+  unfolding framed
+  addressed address f {r} {after} q = rw address (f .is r after q)
