@@ -2,8 +2,8 @@
  * CRSF frames for a host in C: cut a byte stream into frames, save and restore midway, write and read records.
  *
  * Link the archive: libcrsf.a where `./install PREFIX` put it (`pkg-config --cflags --libs crsf` has the flags), or target/staticlib/libhost.a
- * where `rt staticlib host` wrote it. It is for x86-64 Linux, allocates nothing, keeps nothing between calls, and needs nothing from outside but
- * memcpy and memset.
+ * where `rt staticlib host` wrote it. It is for x86-64 Linux, allocates nothing, keeps nothing between calls, and needs nothing from outside, not
+ * even memcpy.
  *
  *     // Hands every frame of a piece to on_frame. Answers 0, or 8 where the state is not valid.
  *     int take(crsf_state *state, const uint8_t *piece, size_t len)
@@ -34,13 +34,13 @@
  *     crsf_pack_altitude                 24        crsf_baro_decimetres               24
  *     crsf_gps_metres                    24        crsf_channel_microseconds          24
  *     crsf_raw_view                      24        crsf_write_link_statistics        432
- *     crsf_write_rc_channels_packed     608        crsf_write_gps                    384
- *     crsf_write_gps_extended           432        crsf_write_battery                400
- *     crsf_write_baro_altitude          352        crsf_write_rpm                    736
+ *     crsf_write_rc_channels_packed     448        crsf_write_gps                    384
+ *     crsf_write_gps_extended           432        crsf_write_battery                368
+ *     crsf_write_baro_altitude          352        crsf_write_rpm                    368
  *     crsf_read_link_statistics          24        crsf_read_rc_channels_packed       56
  *     crsf_read_gps                      24        crsf_read_gps_extended             24
  *     crsf_read_battery                  24        crsf_read_baro_altitude            24
- *     crsf_read_rpm                     216
+ *     crsf_read_rpm                      24
  */
 #ifndef CRSF_H
 #define CRSF_H
