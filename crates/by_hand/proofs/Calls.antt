@@ -37,7 +37,8 @@ module _ {M : Type 1} {𝓤 : URA M} {H : Heap 𝓤} {A : Atoms 𝓤} {K : Type 
       → ((r : Result T (y .0 .0) .Denot) (ws : Lasts T (y .0 .0) (y .0 .3)) → Is (Result T (y .0 .0)) r (v ∷ []) → φ r ws → Seq K W (‵ (Result T (y .0 .0) .own r (v ∷ [])) ∷ ‵ (lasts T (y .0 .0) (y .0 .3) ws) ∷ raw (alive 𝓤 H A (T .signature) (y .0 .0) (y .0 .1)) ∷ Γ) G)
       → Seq K W (raw (tripleOf 𝓤 H A (T .signature) (closing 𝓤 H A T c) .post y v) ∷ Γ) G
   returned t z T c y v φ states k =
-      use1 W (later (some (λ (r : Result T (y .0 .0) .Denot). (raw (alive 𝓤 H A (T .signature) (y .0 .0) (y .0 .1)) ⊛ ‵ (Result T (y .0 .0) .own r (v ∷ []))) ⊛ raw (ensured 𝓤 H A T c (y .0 .0) (y .0 .3) (y .1) r)))) (id⊢ 𝓤 _) $ await t z $ pick t (λ r. split t $ move t (1 ∷ []) $
+      use1 W (later (some (λ (r : Result T (y .0 .0) .Denot). (raw (alive 𝓤 H A (T .signature) (y .0 .0) (y .0 .1)) ⊛ ‵ (Result T (y .0 .0) .own r (v ∷ []))) ⊛ raw (ensured 𝓤 H A T c (y .0 .0) (y .0 .3) (y .1) r))))
+      (id⊢ 𝓤 _) $ await t z $ pick t (λ r. split t $ move t (1 ∷ []) $
       use1 W (some (λ (ws : Lasts T (y .0 .0) (y .0 .3)). ‵ (lasts T (y .0 .0) (y .0 .3) ws) ⊛ raw (c (y .0 .0) (y .0 .3) .ensures (y .1) r (atExit T (y .0 .0) (y .0 .3) ws)))) (id⊢ 𝓤 _) $ pick t (λ ws. split t $ move t (1 ∷ []) $
       use1 W (raw (fact 𝓤 (φ r ws))) (states r ws) $ heard t (φ r ws) (λ e.
       -- [what is said of last values; the tokens and the result]

@@ -113,7 +113,8 @@ module _ (P : PlainStruct) (R : RattleType) (T : Typed R) (φ : P .type .D → L
     Post = walkOf 𝓤 H A (lent-ended P R) (stayed P R) (lent-clauses P R φ 𝓤) .post (((κ, (κ′, tt)), (q, (q′, tt)), tt, x, at), tt)
 
     exits : (r : R .Denot) (v : Val) (zs : List ℕ) → φ h ys r zs → length zs ≡ length ys
-        → ent 𝓤 (⋆ 𝓤 H A (‵ (flft κ q) ∷ raw (alive 𝓤 H A (value-ended P R .signature) (κ′, tt) (q′, tt)) ∷ ‵ (fres γ (rowOf P .coded .code h)) ∷ ‵ (fshr-bor κ (λ s. partAt (rowOf P) s h b o)) ∷ ‵ (finally u8 γ′ zs) ∷ ‵ (R .own r (v ∷ [])) ∷ [])) (Post v)
+        → ent 𝓤 (⋆ 𝓤 H A (‵ (flft κ q) ∷ raw (alive 𝓤 H A (value-ended P R .signature) (κ′, tt) (q′, tt)) ∷ ‵ (fres γ (rowOf P .coded .code h))
+        ∷ ‵ (fshr-bor κ (λ s. partAt (rowOf P) s h b o)) ∷ ‵ (finally u8 γ′ zs) ∷ ‵ (R .own r (v ∷ [])) ∷ [])) (Post v)
     exits r v zs e l =
         qed W (‵ (flft κ q) ∷ raw (alive 𝓤 H A (value-ended P R .signature) (κ′, tt) (q′, tt)) ∷ ‵ (fres γ (rowOf P .coded .code h)) ∷ ‵ (fshr-bor κ (λ s. partAt (rowOf P) s h b o)) ∷ ‵ (finally u8 γ′ zs) ∷ ‵ (R .own r (v ∷ [])) ∷ []) ∵
         suffices ! _ (ends-at 𝓤 H A (lent-ended P R) (stayed P R) (lent-clauses P R φ 𝓤) W (((κ, (κ′, tt)), (q, (q′, tt)), tt, x, at), tt) v r (tt, (zs, tt)) (tt, (l, tt))) $ says ! e $ join ! $ frame ! $
