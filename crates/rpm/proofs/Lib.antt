@@ -1,4 +1,0 @@
-pub mod RunLaws
-pub mod RpmLaws
-pub mod Edges
-pub mod Unique

@@ -1,3 +1,0 @@
-pub mod Runs
-pub mod Rpm
-pub mod Edges
