@@ -2,15 +2,14 @@
 -- Assumes nothing.
 use mathlib.Core.Path.{_≡_, sym, ap, _∙_}
 use mathlib.Core.List.{List, _++_}
-use Prim.Native.Nat.{ℕ, suc, _+_, _%_, _^_, _≤_, _<_}
+use Prim.Native.Nat.{ℕ, _%_, _^_, _≤_, _<_}
 use native.Mathlib.Nat.{mod-eq-of-lt, min-le-right, zero-add}
-use native.Mathlib.Numerals.{add-one}
 use native.Mathlib.Omega.{arith}
 use borrow.Author.Tests.{le-leb, lt-leb, leb-true}
 use lib.Dec.{eqb, leb, lit≤, lit<}
 use lib.IntN.{ℤ}
-use lib.ListN.{length, getD, take, drop, set, length-take, take-append-drop}
-use lib.Seq.{drop-cons, set-at, append-snoc, take-suc, length-take-le, take-append-seam}
+use lib.ListN.{length, getD, take, drop, length-take, take-append-drop}
+use lib.Seq.{take-append-seam}
 use Rattle.base.specs.Bytes.{Bytes}
 use Rattle.base.specs.Choice.{if_then_else_}
 use Rattle.base.specs.Parts.{part, copied}
@@ -40,11 +39,6 @@ use Rattle.host_answer.proofs.Rows.{not-success, row-refusal}
 use Rattle.host_records.specs.Read.{given, givenAll, givenShort, gives, keptBattery, byRow, givesChannels, answerRpm, givesRpm}
 
 module _ {A : Type 0} (s d : List A) where
-  pub copy-more : (z : A) (i : ℕ) → i < length s → i < length d → set (take i s ++ drop i d) i (getD s i z) ≡ take (i + 1) s ++ drop (i + 1) d
-  copy-more z i hs hd =
-      rw (drop-cons d i z hd, set-at (take i s) (getD d i z) (drop (suc i) d) (getD s i z) i (length-take-le i s (omega arith)), add-one, take-suc s i z hs)
-      (sym (append-snoc (take i s) (getD s i z) (drop (suc i) d)))
-
   take-counted : (n : ℕ) → take (length (take n s)) s ≡ take n s
   take-counted n = ap (take (length (take n s))) (sym (take-append-drop n s)) ∙ take-append-seam (take n s) (drop n s)
 

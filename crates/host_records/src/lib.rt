@@ -1,5 +1,6 @@
 // The numbers of a record, at the front of a lent slice.
-use base::copy_numbers;
+use base::copy_i32;
+use base::copy_u16;
 use base::narrow;
 use channels::RcChannelsPacked;
 use host_answer::answer::HostAnswer;
@@ -15,9 +16,7 @@ use records::link_statistics::LinkStatistics;
 use refusals::Refusal;
 use rpm::runs::Run;
 ghost use mathlib.Core.Path.{_≡_};
-ghost use mathlib.Core.List.{_++_};
-ghost use Prim.Native.Nat.{_≤_};
-ghost use lib.ListN.{length, take, drop};
+ghost use lib.ListN.{length, take};
 ghost use Rattle.positions.specs.Gps.{gpsValues};
 ghost use Rattle.positions.specs.GpsExtended.{gpsExtendedValues};
 ghost use Rattle.records.specs.LinkStatistics.{linkStatisticsValues};
@@ -44,7 +43,7 @@ fn give(answer: HostAnswer, values: &[i32], n: usize, out: &mut [i32]) -> u64
     if out.len() < count {
         return refuse(Refusal::BufferOverflow);
     }
-    copy_numbers(out, values, count);
+    copy_i32(out, values, count);
     pack(answer)
 }
 
@@ -158,17 +157,6 @@ pub fn give_baro_altitude(x: BaroAltitude, out: &mut [i32]) -> u64
     give_all(&values, out)
 }
 
-fn copy_channels(out: &mut [u16], channels: &[u16], n: usize)
-    requires { ⌜ (n ≤ length (now out)) × (n ≤ length (now channels)) ⌝ }
-    ensures { λ _. ⌜ now (out .exit) ≡ take n (now (channels .entry)) ++ drop n (now (out .entry)) ⌝ }
-{
-    let mut i = 0;
-    while i < n {
-        out[i] = channels[i];
-        i += 1;
-    }
-}
-
 // As `give_all`, of channels.
 fn give_all_channels(channels: &[u16], out: &mut [u16]) -> u64
     ensures { λ r. ⌜ (r, now (out .exit)) ≡ givenShort (now (channels .entry)) (now (out .entry)) ⌝ }
@@ -177,7 +165,7 @@ fn give_all_channels(channels: &[u16], out: &mut [u16]) -> u64
     if out.len() < n {
         return refuse(Refusal::BufferOverflow);
     }
-    copy_channels(out, channels, n);
+    copy_u16(out, channels, n);
     count(n)
 }
 

@@ -22,8 +22,8 @@ returns c =
     ap (λ (r : ℕ). (r, a .out .now)) (c .refuse .ensures)
     ∙ given-none (take (a .n) (a .values .now)) (a .out .now) (a .answer) (counted .at-most .result) (sym (counted .at-most .ensures)) (c .before .if1 .taken)
 
-copy-numbers-requires : tie.Need-copy-numbers-requires
-copy-numbers-requires c κs = search needs
+copy-i32-requires : tie.Need-copy-i32-requires
+copy-i32-requires c κs = search needs
 
 pack-requires : tie.Need-pack-requires
 pack-requires c κs = search needs
@@ -39,7 +39,7 @@ returns-2 c =
     let a = counted .before .args in
     let many = counted .at-most .result in
     ap₂ (λ (r : ℕ) (l : List ℤ). (r, l)) (c .pack .ensures)
-    (copied .copy-numbers .ensures ∙ copied-front (a .values .now) (a .out .now) (a .n) many (counted .at-most .ensures) (test .if1 .left))
+    (copied .copy-i32 .ensures ∙ copied-front (a .values .now) (a .out .now) (a .n) many (counted .at-most .ensures) (test .if1 .left))
     ∙ given-all (take (a .n) (a .values .now)) (a .out .now) (a .answer) many (sym (counted .at-most .ensures)) (test .if1 .left)
 
 pub give-spec : {M : Type 1} → statement M
@@ -49,7 +49,7 @@ give-spec =
     at-most-requires
     refuse-requires
     returns
-    copy-numbers-requires
+    copy-i32-requires
     pack-requires
     same-length
     returns-2)

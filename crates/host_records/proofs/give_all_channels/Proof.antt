@@ -1,10 +1,9 @@
 -- `host_records::give_all_channels` meets its contract. Assumes nothing.
 use mathlib.Core.Path.{refl, ap, ap₂, _∙_}
-use mathlib.Core.List.{List, _++_}
+use mathlib.Core.List.{List}
 use Prim.Native.Nat.{ℕ}
-use native.Mathlib.Omega.{arith}
-use lib.ListN.{length, drop}
-use lib.Seq.{take-all}
+use lib.ListN.{length}
+use Rattle.base.proofs.Parts.{copied-all}
 use Rattle.host_answer.specs.Answer.{answerCount, inBytes}
 use Rattle.host_records.proofs.Given.{given-all, given-none}
 use borrow.Author.Needs.{needs}
@@ -20,8 +19,8 @@ returns c =
     let all = a .channels .now in
     ap (λ (r : ℕ). (r, a .out .now)) (c .refuse .ensures) ∙ given-none all (a .out .now) (inBytes (answerCount (length all))) (length all) refl (c .before .if1 .taken)
 
-copy-channels-requires : tie.Need-copy-channels-requires
-copy-channels-requires c κs = search needs
+copy-u16-requires : tie.Need-copy-u16-requires
+copy-u16-requires c κs = search needs
 
 count-requires : tie.Need-count-requires
 count-requires c κs = search needs
@@ -31,15 +30,15 @@ same-length c = search needs
 
 returns-2 : tie.Need-returns-2
 returns-2 c =
-    let copied = c .before .before .before in
-    let test = copied .before .before in
+    let call = c .before .before .before in
+    let test = call .before .before in
     let a = test .before .before .before .args in
     let all = a .channels .now in
     ap₂ (λ (r : ℕ) (l : List ℕ). (r, l)) (c .count .ensures)
-    (copied .copy-channels .ensures ∙ ap (λ (l : List ℕ). l ++ drop (length all) (a .out .now)) (take-all (length all) all (omega arith)))
+    (call .copy-u16 .ensures ∙ copied-all (a .out .now) all (test .if1 .left))
     ∙ given-all all (a .out .now) (inBytes (answerCount (length all))) (length all) refl (test .if1 .left)
 
 pub give-all-channels-spec : {M : Type 1} → statement M
 give-all-channels-spec =
     tie.close
-    (tie.spec refuse-requires returns copy-channels-requires count-requires same-length returns-2)
+    (tie.spec refuse-requires returns copy-u16-requires count-requires same-length returns-2)
