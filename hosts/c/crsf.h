@@ -37,10 +37,12 @@
  *     crsf_write_rc_channels_packed     448        crsf_write_gps                    384
  *     crsf_write_gps_extended           432        crsf_write_battery                368
  *     crsf_write_baro_altitude          352        crsf_write_rpm                    368
+ *     crsf_write_temp                     ?        crsf_write_voltages                 ?
  *     crsf_read_link_statistics          24        crsf_read_rc_channels_packed       56
  *     crsf_read_gps                      24        crsf_read_gps_extended             24
  *     crsf_read_battery                  24        crsf_read_baro_altitude            24
- *     crsf_read_rpm                      24
+ *     crsf_read_rpm                      24        crsf_read_temp                      ?
+ *     crsf_read_voltages                  ?
  */
 #ifndef CRSF_H
 #define CRSF_H
@@ -69,7 +71,7 @@ typedef struct crsf_answer {
     uint8_t in_state; /* of a frame: 1 where its bytes stand in the state, 0 where they stand in the input */
     uint8_t at;       /* of a frame: where it begins, in the 66 bytes of the state or in the input */
     uint8_t len;      /* the bytes of a frame; or how many bytes were written or are held; or how many numbers were given */
-    uint8_t first;    /* what a refusal carries, see below; the source id of an RPM record that was read */
+    uint8_t first;    /* what a refusal carries, see below; the source id of RPM, temperatures or voltages that were read */
     uint8_t second;   /* CRSF_INVALID_CRC: the carried check byte */
     uint8_t zero;     /* 0 */
 } crsf_answer;
@@ -80,8 +82,8 @@ enum {
     CRSF_INVALID_SYNC = 1,           /* first: a byte that is not an address. It is dropped */
     CRSF_INVALID_PACKET_LENGTH = 2,  /* first: a length byte that is not 2 to 62. One byte is dropped, the address before it */
     CRSF_INVALID_CRC = 3,            /* first: the calculated check byte; second: the carried one. One byte is dropped */
-    CRSF_INVALID_PAYLOAD_LENGTH = 4, /* a payload too short for its record; more than 19 RPM values, or none to write; not sixteen channels;
-                                      * a raw view of fewer than four bytes */
+    CRSF_INVALID_PAYLOAD_LENGTH = 4, /* a payload too short for its record; more values than the record has at most, or none to write; not sixteen
+                                      * channels; a raw view of fewer than four bytes */
     CRSF_BUFFER_OVERFLOW = 5,        /* a buffer too short for what would be written: nothing was */
     CRSF_CHANNEL_RANGE = 6,          /* first: the index of the first channel above 2047, 0 of a single one. Nothing was written */
     CRSF_BAD_ADDRESS = 7,            /* a destination that is not an address. Nothing was written */
@@ -168,6 +170,8 @@ enum {
     CRSF_TYPE_BATTERY = 0x08,
     CRSF_TYPE_BARO_ALTITUDE = 0x09,
     CRSF_TYPE_RPM = 0x0C,
+    CRSF_TYPE_TEMP = 0x0D,
+    CRSF_TYPE_VOLTAGES = 0x0E,
     CRSF_TYPE_LINK_STATISTICS = 0x14,
     CRSF_TYPE_RC_CHANNELS_PACKED = 0x16
 };
@@ -234,6 +238,18 @@ crsf_answer crsf_write_baro_altitude(uint8_t *buffer, size_t buffer_len, uint8_t
 crsf_answer crsf_write_rpm(uint8_t *buffer, size_t buffer_len, uint8_t dest, uint8_t rpm_source_id, const int32_t *rpm_values,
                            size_t rpm_values_len);
 
+/* Temperatures of one source.
+ *   temp_source_id   where the values come from: 0 is the flight controller, 1 the air around it
+ *   temperatures     1 to 20 of them (else 4), in tenths of a degree Celsius: 250 is 25.0, -5 is half a degree below zero */
+crsf_answer crsf_write_temp(uint8_t *buffer, size_t buffer_len, uint8_t dest, uint8_t temp_source_id, const int16_t *temperatures,
+                            size_t temperatures_len);
+
+/* Voltages of one source, as those of a battery's cells.
+ *   voltage_source_id   where the values come from
+ *   voltage_values      1 to 29 of them (else 4), in millivolts: 3850 is 3.85 V */
+crsf_answer crsf_write_voltages(uint8_t *buffer, size_t buffer_len, uint8_t dest, uint8_t voltage_source_id, const uint16_t *voltage_values,
+                                size_t voltage_values_len);
+
 /* Readers: the numbers of a payload to the front of out, in the order and the units of the writer's parameters; len is how many. Refusal 4 for
  * a payload that is too short, then 5 where out is too short, with out unchanged. Bytes of the payload past the record are ignored. */
 
@@ -244,7 +260,9 @@ enum {
     CRSF_GPS_EXTENDED_NUMBERS = 12,
     CRSF_BATTERY_NUMBERS = 5,
     CRSF_BARO_ALTITUDE_NUMBERS = 2,
-    CRSF_RPM_VALUES_MAX = 19
+    CRSF_RPM_VALUES_MAX = 19,
+    CRSF_TEMPERATURES_MAX = 20,
+    CRSF_VOLTAGE_VALUES_MAX = 29
 };
 
 crsf_answer crsf_read_link_statistics(const uint8_t *payload, size_t payload_len, int32_t *out, size_t out_len);
@@ -253,8 +271,11 @@ crsf_answer crsf_read_gps(const uint8_t *payload, size_t payload_len, int32_t *o
 crsf_answer crsf_read_gps_extended(const uint8_t *payload, size_t payload_len, int32_t *out, size_t out_len);
 crsf_answer crsf_read_battery(const uint8_t *payload, size_t payload_len, int32_t *out, size_t out_len);
 crsf_answer crsf_read_baro_altitude(const uint8_t *payload, size_t payload_len, int32_t *out, size_t out_len);
-/* The values; first is the source id. A payload of 3 bytes has none. More than 19 are refused with 4. */
+/* Of these three the values; first is the source id. Refusal 4 for a payload of fewer than 3 bytes, and for more values than the record has at
+ * most. RPM of 3 bytes has no value; temperatures and voltages have one at least. */
 crsf_answer crsf_read_rpm(const uint8_t *payload, size_t payload_len, int32_t *out, size_t out_len);
+crsf_answer crsf_read_temp(const uint8_t *payload, size_t payload_len, int16_t *out, size_t out_len);
+crsf_answer crsf_read_voltages(const uint8_t *payload, size_t payload_len, uint16_t *out, size_t out_len);
 
 /* ---- Conveniences -------------------------------------------------------------------------------------------------------------------------- */
 

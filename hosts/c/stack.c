@@ -54,6 +54,8 @@ static size_t count, room;
 static uint8_t dest;
 static uint16_t channels[16];
 static int32_t numbers[20];
+static int16_t temperatures[CRSF_TEMPERATURES_MAX + 1];
+static uint16_t voltages[CRSF_VOLTAGE_VALUES_MAX + 1];
 static uint32_t bits[1];
 static volatile unsigned sink;
 
@@ -83,6 +85,8 @@ CALL(write_gps_extended, buffer, room, dest, 1, 2, 3, 4, 5, 6, 7, 8, 9, 10, 11, 
 CALL(write_battery, buffer, room, dest, 1, 2, 3, 4, bytes[0])
 CALL(write_baro_altitude, buffer, room, dest, 1, 2)
 CALL(write_rpm, buffer, room, dest, 1, numbers, count % 21)
+CALL(write_temp, buffer, room, dest, 1, temperatures, count % (CRSF_TEMPERATURES_MAX + 2))
+CALL(write_voltages, buffer, room, dest, 1, voltages, count % (CRSF_VOLTAGE_VALUES_MAX + 2))
 CALL(read_link_statistics, bytes, count, numbers, room % 21)
 CALL(read_rc_channels_packed, bytes, count, channels, room % 17)
 CALL(read_gps, bytes, count, numbers, room % 21)
@@ -90,6 +94,8 @@ CALL(read_gps_extended, bytes, count, numbers, room % 21)
 CALL(read_battery, bytes, count, numbers, room % 21)
 CALL(read_baro_altitude, bytes, count, numbers, room % 21)
 CALL(read_rpm, bytes, count, numbers, room % 21)
+CALL(read_temp, bytes, count, temperatures, room % (CRSF_TEMPERATURES_MAX + 2))
+CALL(read_voltages, bytes, count, voltages, room % (CRSF_VOLTAGE_VALUES_MAX + 2))
 
 #define ENTRY(name) {"crsf_" #name, call_##name, 0}
 static struct {
@@ -101,9 +107,9 @@ static struct {
     ENTRY(is_address), ENTRY(header_of), ENTRY(checksum), ENTRY(pack_altitude), ENTRY(baro_decimetres), ENTRY(gps_metres),
     ENTRY(channel_microseconds), ENTRY(raw_view),
     ENTRY(write_link_statistics), ENTRY(write_rc_channels_packed), ENTRY(write_gps), ENTRY(write_gps_extended), ENTRY(write_battery),
-    ENTRY(write_baro_altitude), ENTRY(write_rpm),
+    ENTRY(write_baro_altitude), ENTRY(write_rpm), ENTRY(write_temp), ENTRY(write_voltages),
     ENTRY(read_link_statistics), ENTRY(read_rc_channels_packed), ENTRY(read_gps), ENTRY(read_gps_extended), ENTRY(read_battery),
-    ENTRY(read_baro_altitude), ENTRY(read_rpm),
+    ENTRY(read_baro_altitude), ENTRY(read_rpm), ENTRY(read_temp), ENTRY(read_voltages),
 };
 enum { ENTRIES = sizeof entries / sizeof *entries };
 
@@ -136,6 +142,8 @@ int main(void)
             channels[i] = (uint16_t)(noise() % (turn % 4 ? 2048 : 4096));
         for (size_t i = 0; i < 20; i++)
             numbers[i] = (int32_t)(noise() * 331u);
+        memcpy(temperatures, bytes, sizeof temperatures);
+        memcpy(voltages, bytes, sizeof voltages);
         memset(&first_state, 0, sizeof first_state);
         first_state.start = turn % 7 ? (uint8_t)(noise() % 65) : 0;
         first_state.end = (uint8_t)(first_state.start + noise() % (65u - first_state.start));

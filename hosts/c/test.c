@@ -283,12 +283,134 @@ static void records(void)
     CHECK(refusal(crsf_write_rpm(b, sizeof b, 0xC8, 7, values, 20), CRSF_INVALID_PAYLOAD_LENGTH));
     CHECK(refusal(crsf_write_rpm(b, sizeof b, 0xC8, 7, NULL, 0), CRSF_INVALID_PAYLOAD_LENGTH));
 
+    const int16_t degrees[4] = {-32768, -1, 0, 32767};
+    int16_t read_degrees[5] = {0, 0, 0, 0, 0x7777};
+    p = WRITTEN(CRSF_TYPE_TEMP, 9, crsf_write_temp(b, sizeof b, 0xC8, 7, degrees, 4));
+    CHECK(memcmp(p, BYTES(7, 0x80, 0, 0xFF, 0xFF, 0, 0, 0x7F, 0xFF)) == 0);
+    CHECK(is(crsf_read_temp(p, 9, read_degrees, 5), CRSF_OK, 0, 0, 0, 4, 7, 0));
+    CHECK(memcmp(read_degrees, degrees, sizeof degrees) == 0 && read_degrees[4] == 0x7777);
+
+    const uint16_t millivolts[5] = {0, 1, 0x7FFF, 0x8000, 0xFFFF};
+    uint16_t read_millivolts[6] = {0, 0, 0, 0, 0, 0x7777};
+    p = WRITTEN(CRSF_TYPE_VOLTAGES, 11, crsf_write_voltages(b, sizeof b, 0xC8, 255, millivolts, 5));
+    CHECK(memcmp(p, BYTES(255, 0, 0, 0, 1, 0x7F, 0xFF, 0x80, 0, 0xFF, 0xFF)) == 0);
+    CHECK(is(crsf_read_voltages(p, 11, read_millivolts, 6), CRSF_OK, 0, 0, 0, 5, 255, 0));
+    CHECK(memcmp(read_millivolts, millivolts, sizeof millivolts) == 0 && read_millivolts[5] == 0x7777);
+
     /* 7 comes before 5, and a refusal writes nothing */
     memset(b, 0xAA, sizeof b);
     CHECK(refusal(crsf_write_gps(b, 3, 0xC9, 1, 2, 3, 4, 5, 6), CRSF_BAD_ADDRESS));
     CHECK(refusal(crsf_write_gps(b, 18, 0xC8, 1, 2, 3, 4, 5, 6), CRSF_BUFFER_OVERFLOW));
     for (size_t i = 0; i < sizeof b; i++)
         CHECK(b[i] == 0xAA);
+}
+
+/* An id and a counted run of values of two bytes: temperatures and voltages, both by the bits of their values. */
+typedef struct run {
+    uint8_t type;
+    size_t most;
+    crsf_answer (*read)(const uint8_t *payload, size_t payload_len, uint16_t *out, size_t out_len);
+    crsf_answer (*write)(uint8_t *buffer, size_t buffer_len, uint8_t dest, uint8_t id, const uint16_t *values, size_t values_len);
+} run;
+
+static crsf_answer read_temp_bits(const uint8_t *payload, size_t payload_len, uint16_t *out, size_t out_len)
+{
+    return crsf_read_temp(payload, payload_len, (int16_t *)out, out_len);
+}
+
+static crsf_answer write_temp_bits(uint8_t *buffer, size_t buffer_len, uint8_t dest, uint8_t id, const uint16_t *values, size_t values_len)
+{
+    return crsf_write_temp(buffer, buffer_len, dest, id, (const int16_t *)values, values_len);
+}
+
+enum { RUN_PLACES = 40, RUN_BUFFER = 80, RUN_PAYLOAD = 1000 };
+
+/* What a reader is to answer and to leave in its places, from the layout alone. */
+static void run_reads(const run *r, const uint8_t *payload, size_t n, size_t lent)
+{
+    uint16_t want[RUN_PLACES], got[RUN_PLACES];
+    memset(want, 0x77, sizeof want);
+    memset(got, 0x77, sizeof got);
+    const crsf_answer a = r->read(payload, n, got, lent);
+    const size_t values = n ? (n - 1) / 2 : 0;
+    if (n < 3 || values > r->most)
+        CHECK(refusal(a, CRSF_INVALID_PAYLOAD_LENGTH));
+    else if (lent < values)
+        CHECK(refusal(a, CRSF_BUFFER_OVERFLOW));
+    else {
+        CHECK(is(a, CRSF_OK, 0, 0, 0, (uint8_t)values, payload[0], 0));
+        for (size_t i = 0; i < values; i++)
+            want[i] = (uint16_t)(payload[1 + 2 * i] * 256 + payload[2 + 2 * i]);
+    }
+    CHECK(memcmp(got, want, sizeof want) == 0);
+}
+
+/* What a writer is to answer and to leave in its buffer, from the layout alone. The payload that it wrote is read as the values. */
+static void run_writes(const run *r, uint8_t dest, uint8_t id, const uint16_t *values, size_t n, size_t lent)
+{
+    uint8_t want[RUN_BUFFER], got[RUN_BUFFER];
+    memset(want, 0xAA, sizeof want);
+    memset(got, 0xAA, sizeof got);
+    const crsf_answer a = r->write(got, lent, dest, id, values, n);
+    if (!crsf_is_address(dest))
+        CHECK(refusal(a, CRSF_BAD_ADDRESS));
+    else if (n == 0 || n > r->most)
+        CHECK(refusal(a, CRSF_INVALID_PAYLOAD_LENGTH));
+    else if (lent < 5 + 2 * n)
+        CHECK(refusal(a, CRSF_BUFFER_OVERFLOW));
+    else {
+        const uint8_t head[] = {dest, (uint8_t)(3 + 2 * n), r->type, id};
+        uint16_t back[RUN_PLACES];
+        memcpy(want, head, sizeof head);
+        for (size_t i = 0; i < n; i++) {
+            want[4 + 2 * i] = (uint8_t)(values[i] / 256);
+            want[5 + 2 * i] = (uint8_t)(values[i] % 256);
+        }
+        want[4 + 2 * n] = crsf_checksum(want + 2, 2 + 2 * n);
+        CHECK(count(a, (uint8_t)(5 + 2 * n)));
+        CHECK(is(r->read(crsf_frame_payload(got), crsf_frame_payload_len(a), back, n), CRSF_OK, 0, 0, 0, (uint8_t)n, id, 0));
+        CHECK(memcmp(back, values, n * sizeof *values) == 0);
+    }
+    CHECK(memcmp(got, want, sizeof want) == 0);
+}
+
+/* Every payload of 0 to 64 bytes and some longer, into every number of places; every count of values, up to six too many, into every buffer, to
+ * addresses and to others. */
+static void runs(void)
+{
+    const run all[] = {
+        {CRSF_TYPE_TEMP, CRSF_TEMPERATURES_MAX, read_temp_bits, write_temp_bits},
+        {CRSF_TYPE_VOLTAGES, CRSF_VOLTAGE_VALUES_MAX, crsf_read_voltages, crsf_write_voltages},
+    };
+    const size_t longer[] = {65, 66, 127, 128, 129, 255, 256, 257, 258, 259, 511, 512, 513, 515, RUN_PAYLOAD};
+    const uint16_t extremes[] = {0, 1, 0x00FF, 0x0100, 0x7FFE, 0x7FFF, 0x8000, 0x8001, 0xFEFF, 0xFFFE, 0xFFFF};
+    const uint8_t dests[] = {0xC8, 0xC9, 0x00, 0xFF};
+    enum { EXTREMES = sizeof extremes / sizeof *extremes };
+    uint8_t payload[RUN_PAYLOAD];
+    uint16_t values[RUN_PLACES];
+    for (const run *r = all; r < all + 2; r++) {
+        for (unsigned shift = 0; shift <= EXTREMES; shift++) {
+            for (size_t i = 0; i < RUN_PLACES; i++)
+                values[i] = shift < EXTREMES ? extremes[(i + shift) % EXTREMES] : (uint16_t)(i * 40503u + 12345u);
+            for (size_t i = 0; i < RUN_PAYLOAD; i++)
+                payload[i] = (uint8_t)(values[i / 2 % RUN_PLACES] >> (i % 2 ? 0 : 8));
+            for (size_t lent = 0; lent <= r->most + 2; lent++) {
+                for (size_t n = 0; n <= 64; n++)
+                    run_reads(r, payload + shift % 2, n, lent);
+                for (size_t i = 0; i < sizeof longer / sizeof *longer; i++)
+                    run_reads(r, payload, longer[i], lent);
+            }
+            for (size_t n = 0; n <= r->most + 6; n++)
+                for (size_t lent = 0; lent <= 70; lent++)
+                    for (size_t i = 0; i < sizeof dests; i++)
+                        run_writes(r, dests[i], (uint8_t)(shift * 23 + n), values, n, lent);
+        }
+        CHECK(refusal(r->read(NULL, 0, NULL, 0), CRSF_INVALID_PAYLOAD_LENGTH));
+        CHECK(refusal(r->read(payload, 3, NULL, 0), CRSF_BUFFER_OVERFLOW));
+        CHECK(refusal(r->write(NULL, 0, 0xC9, 7, NULL, 0), CRSF_BAD_ADDRESS));
+        CHECK(refusal(r->write(NULL, 0, 0xC8, 7, NULL, 0), CRSF_INVALID_PAYLOAD_LENGTH));
+        CHECK(refusal(r->write(NULL, 0, 0xC8, 7, values, 1), CRSF_BUFFER_OVERFLOW));
+    }
 }
 
 static void queries(void)
@@ -352,6 +474,7 @@ int main(void)
     saves();
     stream();
     records();
+    runs();
     queries();
     microseconds();
     raw_views();

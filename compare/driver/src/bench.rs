@@ -11,7 +11,7 @@ use crc::Crc;
 use std::hint::black_box;
 use std::time::Instant;
 use uf_crsf::packets::{write_packet_to_buffer, CrsfPacket};
-use uf_crsf::packets::{BaroAltitude, Battery, Gps, GpsExtended, LinkStatistics, RcChannelsPacked, Rpm};
+use uf_crsf::packets::{BaroAltitude, Battery, Gps, GpsExtended, LinkStatistics, RcChannelsPacked, Rpm, Temp, Voltages};
 use uf_crsf::{CrsfParser, CrsfParsingError, CrsfStreamError, PacketAddress, RawCrsfPacket};
 
 /// How often a run comes to each row, so that all rows have their share of its quiet moments and of its fast clock.
@@ -59,24 +59,28 @@ struct Row {
     best: Vec<f64>,
 }
 
-struct Rows(Vec<Row>);
+struct Rows {
+    rows: Vec<Row>,
+    /// The archives that the next rows are timed with.
+    archives: Vec<&'static Entries>,
+}
 
 impl Rows {
     /// One more row. All sides give a sum, which must be the same.
     fn add(&mut self, name: &str, unit: &'static str, count: usize, rust: impl Fn() -> u64 + 'static, ours: impl Fn(&Entries) -> u64 + Copy + 'static) {
         let mut sides: Vec<Box<dyn Fn() -> u64>> = vec![Box::new(rust)];
-        for entries in archives() {
+        for &entries in &self.archives {
             sides.push(Box::new(move || ours(entries)));
         }
         assert!(sides.iter().all(|side| side() == sides[0]()), "{name}: the sides gave different sums");
         let best = vec![f64::MAX; sides.len()];
-        self.0.push(Row { name: name.to_string(), unit, count, sides, best });
+        self.rows.push(Row { name: name.to_string(), unit, count, sides, best });
     }
 
     /// Times them all: the rows in turn, and in each the sides in turn, each side first as often as another.
     fn time(&mut self) {
         for visit in 0..VISITS {
-            for row in &mut self.0 {
+            for row in &mut self.rows {
                 for turn in 0..TURNS {
                     for i in 0..row.sides.len() {
                         let side = (visit + turn + i) % row.sides.len();
@@ -87,7 +91,7 @@ impl Rows {
                 }
             }
         }
-        for row in &self.0 {
+        for row in &self.rows {
             say(&row.name, row.unit, row.count, &row.best);
         }
     }
@@ -387,9 +391,21 @@ fn empty_rows(rows: &mut Rows) {
     });
 }
 
+/// So many values of a run, in their type, to which `narrow` takes them.
+fn values_of<N, const COUNT: usize>(f: &[i64], narrow: fn(i64) -> N) -> [N; COUNT] {
+    std::array::from_fn(|i| narrow(f.get(1 + i).copied().unwrap_or(i as i64)))
+}
+
 fn rpm_of(f: &[i64]) -> Rpm {
-    let values: Vec<i32> = (0..4).map(|i| f.get(1 + i).copied().unwrap_or(i as i64) as i32).collect();
-    Rpm::new(f[0] as u8, &values).expect("four values are allowed")
+    Rpm::new(f[0] as u8, &values_of::<_, 4>(f, |x| x as i32)).expect("four values are allowed")
+}
+
+fn temp_of(f: &[i64]) -> Temp {
+    Temp::new(f[0] as u8, &values_of::<_, 4>(f, |x| x as i16)).expect("four values are allowed")
+}
+
+fn voltages_of(f: &[i64]) -> Voltages {
+    Voltages::new(f[0] as u8, &values_of::<_, 6>(f, |x| x as u16)).expect("six values are allowed")
 }
 
 fn record_row_of_each_kind(rows: &mut Rows) {
@@ -468,6 +484,19 @@ fn record_row_of_each_kind(rows: &mut Rows) {
         |r, o| o[..r.rpm_values().len()].copy_from_slice(r.rpm_values()),
         Entries::read_rpm, |e: &Entries, b: &mut [u8], dest, r: &Rpm| e.write_rpm(b, dest, r.rpm_source_id, r.rpm_values())
     );
+    // The entries of these two are marked `new`.
+    rows.archives = vec![&ours::NOW];
+    record_rows!(
+        rows, "temperatures of 4 values", Temp, &RECORDS[7], temp_of, i16, 20,
+        |r, o| o[..r.temperatures().len()].copy_from_slice(r.temperatures()),
+        Entries::read_temp, |e: &Entries, b: &mut [u8], dest, r: &Temp| e.write_temp(b, dest, r.temp_source_id, r.temperatures())
+    );
+    record_rows!(
+        rows, "voltages of 6 values", Voltages, &RECORDS[8], voltages_of, u16, 29,
+        |r, o| o[..r.voltage_values().len()].copy_from_slice(r.voltage_values()),
+        Entries::read_voltages, |e: &Entries, b: &mut [u8], dest, r: &Voltages| e.write_voltages(b, dest, r.voltage_source_id, r.voltage_values())
+    );
+    rows.archives = archives();
 }
 
 /// One run: a line for each row.
@@ -484,7 +513,7 @@ pub fn once(listing: Option<Listing>) {
         f[5] ^= if i % 4 == 0 { 0x55 } else { 0 };
         damaged.extend(f);
     }
-    let mut rows = Rows(vec![]);
+    let mut rows = Rows { rows: vec![], archives: archives() };
     let mut stream = |name: &str, unit, count, bytes: &'static [u8], piece| {
         rows.add(name, unit, count, move || stream_rust(next_rust(), bytes, piece), move |e| stream_ours(e, bytes, piece))
     };

@@ -65,13 +65,18 @@ pub fn kept<T: Copy>(place: &T) -> T {
     *hidden(place)
 }
 
-/// Declares the entries of both archives and a table of pointers to each.
+/// Declares the entries of both archives and a table of pointers to each. An earlier archive may lack those marked `new`: libhost.a's stand in its
+/// table for them, and no row times them as the earlier one's.
 macro_rules! entries {
-    ($(fn $name:ident($($place:ident: $kind:ty),* $(,)?) -> $answer:ty;)*) => {
+    (
+        $(fn $name:ident($($place:ident: $kind:ty),* $(,)?) -> $answer:ty;)*
+        $(new fn $new:ident($($new_place:ident: $new_kind:ty),* $(,)?) -> $new_answer:ty;)*
+    ) => {
         /// Pointers to an archive's entries.
         #[derive(Clone, Copy)]
         pub struct Entries {
             $(pub $name: unsafe extern "C" fn($($kind),*) -> $answer,)*
+            $(pub $new: unsafe extern "C" fn($($new_kind),*) -> $new_answer,)*
         }
 
         impl Entries {
@@ -86,8 +91,9 @@ macro_rules! entries {
         pub static NOW: Entries = {
             extern "C" {
                 $(fn $name($($place: $kind),*) -> $answer;)*
+                $(fn $new($($new_place: $new_kind),*) -> $new_answer;)*
             }
-            Entries { $($name,)* }
+            Entries { $($name,)* $($new,)* }
         };
 
         /// The archive that `compare/run --before` names, its symbols with `before_` in front.
@@ -98,8 +104,9 @@ macro_rules! entries {
                     #[link_name = concat!("before_", stringify!($name))]
                     fn $name($($place: $kind),*) -> $answer;
                 )*
+                $(fn $new($($new_place: $new_kind),*) -> $new_answer;)*
             }
-            Entries { $($name,)* }
+            Entries { $($name,)* $($new,)* }
         };
     };
 }
@@ -138,6 +145,10 @@ entries! {
     fn crsf_pack_altitude(decimetres: i32) -> u16;
     fn crsf_baro_decimetres(packed: u16) -> i32;
     fn crsf_gps_metres(raw: u16) -> i32;
+    new fn crsf_write_temp(b: *mut u8, n: usize, dest: u8, temp_source_id: u8, temperatures: *const i16, count: usize) -> Answer;
+    new fn crsf_write_voltages(b: *mut u8, n: usize, dest: u8, voltage_source_id: u8, values: *const u16, count: usize) -> Answer;
+    new fn crsf_read_temp(p: *const u8, n: usize, out: *mut i16, out_len: usize) -> Answer;
+    new fn crsf_read_voltages(p: *const u8, n: usize, out: *mut u16, out_len: usize) -> Answer;
 }
 
 /// A safe function for each entry: a method by the table's pointer, and a function that calls libhost.a's.
@@ -192,6 +203,10 @@ lent! {
         crsf_write_baro_altitude(b.as_mut_ptr(), b.len(), dest, r.altitude_packed, r.vertical_speed_packed);
     fn write_rpm(b: &mut [u8], dest: u8, id: u8, values: &[i32]) -> Answer =
         crsf_write_rpm(b.as_mut_ptr(), b.len(), dest, id, values.as_ptr(), values.len());
+    fn write_temp(b: &mut [u8], dest: u8, id: u8, values: &[i16]) -> Answer =
+        crsf_write_temp(b.as_mut_ptr(), b.len(), dest, id, values.as_ptr(), values.len());
+    fn write_voltages(b: &mut [u8], dest: u8, id: u8, values: &[u16]) -> Answer =
+        crsf_write_voltages(b.as_mut_ptr(), b.len(), dest, id, values.as_ptr(), values.len());
     fn read_link_statistics(p: &[u8], out: &mut [i32]) -> Answer = crsf_read_link_statistics(p.as_ptr(), p.len(), out.as_mut_ptr(), out.len());
     fn read_rc_channels_packed(p: &[u8], out: &mut [u16]) -> Answer =
         crsf_read_rc_channels_packed(p.as_ptr(), p.len(), out.as_mut_ptr(), out.len());
@@ -200,6 +215,8 @@ lent! {
     fn read_battery(p: &[u8], out: &mut [i32]) -> Answer = crsf_read_battery(p.as_ptr(), p.len(), out.as_mut_ptr(), out.len());
     fn read_baro_altitude(p: &[u8], out: &mut [i32]) -> Answer = crsf_read_baro_altitude(p.as_ptr(), p.len(), out.as_mut_ptr(), out.len());
     fn read_rpm(p: &[u8], out: &mut [i32]) -> Answer = crsf_read_rpm(p.as_ptr(), p.len(), out.as_mut_ptr(), out.len());
+    fn read_temp(p: &[u8], out: &mut [i16]) -> Answer = crsf_read_temp(p.as_ptr(), p.len(), out.as_mut_ptr(), out.len());
+    fn read_voltages(p: &[u8], out: &mut [u16]) -> Answer = crsf_read_voltages(p.as_ptr(), p.len(), out.as_mut_ptr(), out.len());
     fn pack_altitude(decimetres: i32) -> u16 = crsf_pack_altitude(decimetres);
     fn baro_decimetres(packed: u16) -> i32 = crsf_baro_decimetres(packed);
     fn gps_metres(raw: u16) -> i32 = crsf_gps_metres(raw);

@@ -15,8 +15,9 @@
 //! | 10 + r a record read | the payload | | the fields, each 4 bytes, highest first |
 //! | 20 + r a record written | the fields, each 4 bytes, highest first | destination, byte that fills the buffer | the whole buffer afterwards |
 //!
-//! r counts link statistics, channels, GPS, GPS extended, battery, altitude, RPM from 0. Of RPM a written has the id as its first field; of RPM
-//! read the id stands in the answer.
+//! r counts link statistics, channels, GPS, GPS extended, battery, altitude, RPM, temperatures, voltages from 0. Of the last three, written, a has the
+//! id as its first field and a value in each other one; read, the id stands in the answer and c has the values. Temperatures and voltages without a
+//! value are not written (`Record::is_left_out`).
 use crate::gen::{self, Rng, ADDRESSES, EDGES};
 use crate::ours::{self, Answer};
 use crate::queries::{self, CHECK};
@@ -108,7 +109,7 @@ fn read(pages: &mut Pages, r: usize, record: &Record, payload: &[u8]) {
     match (record.read_rust)(payload, &mut fields) {
         Err(refusal) => a.number = number_of(refusal),
         Ok(()) => {
-            a.first = if record.is_rpm() { fields.remove(0) as u8 } else { 0 };
+            a.first = if record.is_run() { fields.remove(0) as u8 } else { 0 };
             a.len = fields.len() as u8;
         }
     }

@@ -1,14 +1,14 @@
-//! The seven records, read from payloads and written as frames: fields, counts, refusals, the bytes written and the bytes beside.
+//! The nine records, read from payloads and written as frames: fields, counts, refusals, the bytes written and the bytes beside.
 use crate::gen::{hex, Rng, ADDRESSES};
 use crate::ours::{self, Answer};
 use crate::report::{Family, Report};
 use uf_crsf::packets::{write_packet_to_buffer, CrsfPacket};
-use uf_crsf::packets::{BaroAltitude, Battery, Gps, GpsExtended, LinkStatistics, RcChannelsPacked, Rpm};
+use uf_crsf::packets::{BaroAltitude, Battery, Gps, GpsExtended, LinkStatistics, RcChannelsPacked, Rpm, Temp, Voltages};
 use uf_crsf::{CrsfParsingError, PacketAddress};
 
 type RustAnswer = Result<usize, CrsfParsingError>;
 
-/// One kind of record on both sides. Its fields are numbers in the struct's order; of RPM the id, then the values.
+/// One kind of record on both sides. Its fields are numbers in the struct's order; of a run the id, then the values.
 pub struct Record {
     pub name: &'static str,
     /// The least and the greatest of each field's type.
@@ -25,7 +25,7 @@ pub struct Out {
     pub lent: usize,
 }
 
-const PLACES: usize = 24;
+const PLACES: usize = 34;
 /// What stands in a place before it is written.
 const UNTOUCHED: i64 = 0x2A5A;
 
@@ -33,17 +33,11 @@ impl Out {
     fn new(lent: usize) -> Out {
         Out { places: [UNTOUCHED; PLACES], lent }
     }
-    /// Lends the places as i32, and keeps what is written.
-    fn lend(&mut self, read: impl FnOnce(&mut [i32]) -> Answer) -> Answer {
-        let mut places = self.places.map(|x| x as i32);
+    /// Lends the places as numbers of the reader's type, and keeps what is written.
+    fn lend<N: Copy + TryFrom<i64> + Into<i64>>(&mut self, read: impl FnOnce(&mut [N]) -> Answer) -> Answer {
+        let mut places = self.places.map(|x| N::try_from(x).ok().expect("what stands there before fits every type"));
         let answer = read(&mut places[..self.lent]);
-        self.places = places.map(i64::from);
-        answer
-    }
-    fn lend_u16(&mut self, read: impl FnOnce(&mut [u16]) -> Answer) -> Answer {
-        let mut places = self.places.map(|x| x as u16);
-        let answer = read(&mut places[..self.lent]);
-        self.places = places.map(i64::from);
+        self.places = places.map(N::into);
         answer
     }
 }
@@ -60,11 +54,19 @@ fn channels(f: &[i64]) -> [u16; 16] {
     std::array::from_fn(|i| f[i] as u16)
 }
 
-fn values(f: &[i64]) -> Vec<i32> {
-    f.iter().map(|&x| x as i32).collect()
+/// The values of a run, in their type, to which `narrow` takes them.
+fn values<N>(f: &[i64], narrow: fn(i64) -> N) -> Vec<N> {
+    f[1..].iter().map(|&x| narrow(x)).collect()
 }
 
-pub const RECORDS: [Record; 7] = [
+/// The ranges of a run: of the id, then of `FIELDS - 1` values.
+const fn run_ranges<const FIELDS: usize>(values: (i64, i64)) -> [(i64, i64); FIELDS] {
+    let mut ranges = [values; FIELDS];
+    ranges[0] = U8;
+    ranges
+}
+
+pub const RECORDS: [Record; 9] = [
     Record {
         name: "link statistics",
         ranges: &[U8, U8, U8, I8, U8, U8, U8, U8, U8, I8],
@@ -89,7 +91,7 @@ pub const RECORDS: [Record; 7] = [
             out.extend(RcChannelsPacked::from_bytes(p)?.0.map(i64::from));
             Ok(())
         },
-        read_ours: |p, out| out.lend_u16(|o| ours::read_rc_channels_packed(p, o)),
+        read_ours: |p, out| out.lend(|o| ours::read_rc_channels_packed(p, o)),
     },
     Record {
         name: "GPS",
@@ -145,11 +147,9 @@ pub const RECORDS: [Record; 7] = [
     },
     Record {
         name: "RPM",
-        ranges: &[
-            U8, I32, I32, I32, I32, I32, I32, I32, I32, I32, I32, I32, I32, I32, I32, I32, I32, I32, I32, I32,
-        ],
-        write_rust: |f, dest, b| write_packet_to_buffer(b, dest, &Rpm::new(f[0] as u8, &values(&f[1..]))?),
-        write_ours: |f, dest, b| ours::write_rpm(b, dest, f[0] as u8, &values(&f[1..])),
+        ranges: &run_ranges::<20>(I32),
+        write_rust: |f, dest, b| write_packet_to_buffer(b, dest, &Rpm::new(f[0] as u8, &values(f, |x| x as i32))?),
+        write_ours: |f, dest, b| ours::write_rpm(b, dest, f[0] as u8, &values(f, |x| x as i32)),
         read_rust: |p, out| {
             let r = Rpm::from_bytes(p)?;
             out.push(i64::from(r.rpm_source_id));
@@ -157,6 +157,32 @@ pub const RECORDS: [Record; 7] = [
             Ok(())
         },
         read_ours: |p, out| out.lend(|o| ours::read_rpm(p, o)),
+    },
+    Record {
+        name: "temperatures",
+        ranges: &run_ranges::<21>(I16),
+        write_rust: |f, dest, b| write_packet_to_buffer(b, dest, &Temp::new(f[0] as u8, &values(f, |x| x as i16))?),
+        write_ours: |f, dest, b| ours::write_temp(b, dest, f[0] as u8, &values(f, |x| x as i16)),
+        read_rust: |p, out| {
+            let r = Temp::from_bytes(p)?;
+            out.push(i64::from(r.temp_source_id));
+            out.extend(r.temperatures().iter().map(|&x| i64::from(x)));
+            Ok(())
+        },
+        read_ours: |p, out| out.lend(|o| ours::read_temp(p, o)),
+    },
+    Record {
+        name: "voltages",
+        ranges: &run_ranges::<30>(U16),
+        write_rust: |f, dest, b| write_packet_to_buffer(b, dest, &Voltages::new(f[0] as u8, &values(f, |x| x as u16))?),
+        write_ours: |f, dest, b| ours::write_voltages(b, dest, f[0] as u8, &values(f, |x| x as u16)),
+        read_rust: |p, out| {
+            let r = Voltages::from_bytes(p)?;
+            out.push(i64::from(r.voltage_source_id));
+            out.extend(r.voltage_values().iter().map(|&x| i64::from(x)));
+            Ok(())
+        },
+        read_ours: |p, out| out.lend(|o| ours::read_voltages(p, o)),
     },
 ];
 
@@ -221,8 +247,15 @@ pub fn number_of(refusal: CrsfParsingError) -> u8 {
 }
 
 impl Record {
-    pub fn is_rpm(&self) -> bool {
-        self.name == "RPM"
+    /// Whether it is a run: an id and a counted run of values.
+    pub fn is_run(&self) -> bool {
+        ["RPM", "temperatures", "voltages"].contains(&self.name)
+    }
+
+    /// What is not compared when written: temperatures and voltages without a value, an id alone. The Rust makes and writes them, ours refuses them
+    /// with 4 (docs/DIFFERENCES.md). RPM without a value is refused by both.
+    pub fn is_left_out(&self, fields: &[i64]) -> bool {
+        self.is_run() && self.name != "RPM" && fields.len() == 1
     }
 
     /// What both sides write of these fields into a buffer of that many bytes, amid others. None where all agree.
@@ -261,7 +294,7 @@ impl Record {
         let expected = match (self.read_rust)(payload, scratch) {
             Err(refusal) => Answer::refusal(number_of(refusal)),
             Ok(()) => {
-                let first = if self.is_rpm() { scratch.remove(0) as u8 } else { 0 };
+                let first = if self.is_run() { scratch.remove(0) as u8 } else { 0 };
                 Answer { number: ours::OK, len: scratch.len() as u8, first, ..Answer::default() }
             }
         };
@@ -282,9 +315,10 @@ impl Record {
         }
     }
 
-    /// Fields at random: of RPM, any count of values.
+    /// Fields at random: of a run, any count of values that is compared.
     pub fn random_fields(&self, r: &mut Rng) -> Vec<i64> {
-        let n = if self.is_rpm() { 1 + r.below(self.ranges.len()) } else { self.ranges.len() };
+        let least = if self.is_left_out(&[0]) { 2 } else { 1 };
+        let n = if self.is_run() { least + r.below(self.ranges.len() + 1 - least) } else { self.ranges.len() };
         (0..n).map(|i| self.random_field(r, i)).collect()
     }
 }
@@ -319,10 +353,14 @@ fn smallest_payload(record: &Record, payload: &[u8]) -> String {
     record.read_differs(&p, &mut scratch).unwrap_or_else(|| "differs, and not when run again".to_string())
 }
 
-/// Takes values off the end (of RPM), and makes fields 0, as long as something still differs.
+/// Takes values off the end (of a run), and makes fields 0, as long as something still differs.
 fn smallest_fields(record: &Record, fields: &[i64], dest: u8, len: usize, fill: u8) -> String {
     let mut f = fields.to_vec();
-    while record.is_rpm() && f.len() > 1 && record.write_differs(&f[..f.len() - 1], dest, len, fill).is_some() {
+    while record.is_run() && f.len() > 1 {
+        let fewer = &f[..f.len() - 1];
+        if record.is_left_out(fewer) || record.write_differs(fewer, dest, len, fill).is_none() {
+            break;
+        }
         f.pop();
     }
     for i in 0..f.len() {
@@ -401,12 +439,12 @@ pub fn compare(report: &mut Report, seed: u64, random: u64) {
             }
         }
     });
-    run(report, "records written: RPM of 0 to 25 values, single channels", &mut |s, record| {
-        for n in 0..=25 {
-            for len in 0..=70 {
-                if record.is_rpm() {
-                    let fields: Vec<i64> = (0..=n).map(|i| record.random_field(&mut s.rng, i.min(19))).collect();
-                    s.write(record, &fields, 0xC8, len);
+    run(report, "records written: runs of 0 to 35 values, single channels", &mut |s, record| {
+        for n in (0..=35).filter(|_| record.is_run()) {
+            for (dest, len) in [0xC8, 0xC9].into_iter().flat_map(|dest| (0..=70).map(move |len| (dest, len))) {
+                let fields: Vec<i64> = (0..=n).map(|i| record.random_field(&mut s.rng, i.min(record.ranges.len() - 1))).collect();
+                if !record.is_left_out(&fields) {
+                    s.write(record, &fields, dest, len);
                 }
             }
         }
@@ -420,15 +458,16 @@ pub fn compare(report: &mut Report, seed: u64, random: u64) {
             }
         }
     });
-    run(report, "records read: every payload length 0 to 64", &mut |s, record| {
-        for len in 0..=64 {
+    run(report, "records read: every payload length 0 to 64, some to 1000", &mut |s, record| {
+        for len in (0..=64).chain([65, 66, 127, 128, 129, 255, 256, 257, 258, 259, 511, 512, 513, 515, 767, 769, 1000]) {
             for fill in [0x00, 0x01, 0x7F, 0x80, 0xFF] {
                 s.read(record, &vec![fill; len]);
             }
             for _ in 0..random / 65 {
                 let mut payload = [0u8; 64];
                 s.rng.fill(&mut payload);
-                s.read(record, &payload[..len]);
+                let payload: Vec<u8> = payload.into_iter().cycle().take(len).collect();
+                s.read(record, &payload);
             }
         }
     });
@@ -438,7 +477,7 @@ pub fn compare(report: &mut Report, seed: u64, random: u64) {
                 for fill in [0x00, 0xFF] {
                     let mut payload = [fill; 60];
                     payload[at] = value;
-                    for len in [at + 1, 22, 58] {
+                    for len in [at + 1, 22, 41, 58, 59] {
                         s.read(record, &payload[..len]);
                     }
                 }
@@ -448,7 +487,8 @@ pub fn compare(report: &mut Report, seed: u64, random: u64) {
     beyond(report);
 }
 
-/// What the Rust's own types rule out or get wrong, and the rules decide: channels above 2047 (RULES 10), too few places to read into (RULES 14).
+/// What the Rust's own types rule out or get wrong, and the rules decide: channels above 2047 and runs without a value (RULES 10), too few places to
+/// read into (RULES 14).
 fn beyond(report: &mut Report) {
     let spills = report.lists("channel 0 set to 2048, the others 0");
     report.family("channels above 2047: the Rust lets them spill, ours refuses", |family| {
@@ -473,13 +513,24 @@ fn beyond(report: &mut Report) {
             }
         }
     });
-    report.family("places to read into, 0 to 24: by RULES 14 alone", |family| {
+    report.family("temperatures, voltages without a value: by RULES 10 alone", |family| {
+        for record in RECORDS.iter().filter(|record| record.is_left_out(&[0])) {
+            for (dest, len) in (0..=255).flat_map(|dest| (0..=70).map(move |len| (dest, len))) {
+                let mut buffer = [0x5A; 70];
+                let got = (record.write_ours)(&[7], dest, &mut buffer[..len]);
+                let number = if ADDRESSES.contains(&dest) { ours::INVALID_PAYLOAD_LENGTH } else { ours::BAD_ADDRESS };
+                let input = || format!("{} without a value to {dest:02X} in {len} bytes", record.name);
+                family.same((Answer::refusal(number), [0x5A; 70]), (got, buffer), input);
+            }
+        }
+    });
+    report.family("places to read into, 0 to 34: by RULES 14 alone", |family| {
         for record in &RECORDS {
-            for (lent, len) in (0..=PLACES).flat_map(|lent| [0, 2, 3, 8, 9, 10, 15, 20, 22, 30, 58, 60, 61].map(|len| (lent, len))) {
+            for (lent, len) in (0..=PLACES).flat_map(|lent| (0..=64).map(move |len| (lent, len))) {
                 let payload: Vec<u8> = (0..len).map(|i| (i * 29 + 131) as u8).collect();
                 let mut fields = vec![];
                 let read = (record.read_rust)(&payload, &mut fields);
-                let wanted = fields.len() - usize::from(record.is_rpm() && read.is_ok());
+                let wanted = fields.len() - usize::from(record.is_run() && read.is_ok());
                 let mut out = Out::new(lent);
                 let got = (record.read_ours)(&payload, &mut out);
                 let number = match read {

@@ -107,6 +107,22 @@ mod archive {
         ) -> u64;
         pub fn crsf_write_baro_altitude(buffer: *mut u8, buffer_len: usize, dest: u8, altitude_packed: u16, vertical_speed_packed: i8) -> u64;
         pub fn crsf_write_rpm(buffer: *mut u8, buffer_len: usize, dest: u8, rpm_source_id: u8, rpm_values: *const i32, rpm_values_len: usize) -> u64;
+        pub fn crsf_write_temp(
+            buffer: *mut u8,
+            buffer_len: usize,
+            dest: u8,
+            temp_source_id: u8,
+            temperatures: *const i16,
+            temperatures_len: usize,
+        ) -> u64;
+        pub fn crsf_write_voltages(
+            buffer: *mut u8,
+            buffer_len: usize,
+            dest: u8,
+            voltage_source_id: u8,
+            voltage_values: *const u16,
+            voltage_values_len: usize,
+        ) -> u64;
         pub fn crsf_read_link_statistics(payload: *const u8, payload_len: usize, out: *mut i32, out_len: usize) -> u64;
         pub fn crsf_read_rc_channels_packed(payload: *const u8, payload_len: usize, out: *mut u16, out_len: usize) -> u64;
         pub fn crsf_read_gps(payload: *const u8, payload_len: usize, out: *mut i32, out_len: usize) -> u64;
@@ -114,6 +130,8 @@ mod archive {
         pub fn crsf_read_battery(payload: *const u8, payload_len: usize, out: *mut i32, out_len: usize) -> u64;
         pub fn crsf_read_baro_altitude(payload: *const u8, payload_len: usize, out: *mut i32, out_len: usize) -> u64;
         pub fn crsf_read_rpm(payload: *const u8, payload_len: usize, out: *mut i32, out_len: usize) -> u64;
+        pub fn crsf_read_temp(payload: *const u8, payload_len: usize, out: *mut i16, out_len: usize) -> u64;
+        pub fn crsf_read_voltages(payload: *const u8, payload_len: usize, out: *mut u16, out_len: usize) -> u64;
     }
 }
 
@@ -193,6 +211,8 @@ writer!(write_gps_extended = crsf_write_gps_extended(
 writer!(write_battery = crsf_write_battery(voltage: i16, current: i16, capacity_used: u32, remaining: u8, id: u8));
 writer!(write_baro_altitude = crsf_write_baro_altitude(altitude_packed: u16, vertical_speed_packed: i8));
 writer!(write_rpm = crsf_write_rpm(rpm_source_id: u8; rpm_values: i32));
+writer!(write_temp = crsf_write_temp(temp_source_id: u8; temperatures: i16));
+writer!(write_voltages = crsf_write_voltages(voltage_source_id: u8; voltage_values: u16));
 
 /// A reader's wrapper.
 macro_rules! reader {
@@ -210,3 +230,5 @@ reader!(read_gps_extended = crsf_read_gps_extended(i32));
 reader!(read_battery = crsf_read_battery(i32));
 reader!(read_baro_altitude = crsf_read_baro_altitude(i32));
 reader!(read_rpm = crsf_read_rpm(i32));
+reader!(read_temp = crsf_read_temp(i16));
+reader!(read_voltages = crsf_read_voltages(u16));

@@ -11,7 +11,9 @@ mod packets;
 mod parser;
 
 pub use error::{CrsfParsingError, CrsfStreamError};
-pub use packets::{write_packet_to_buffer, BaroAltitude, Battery, CrsfPacket, Gps, GpsExtended, LinkStatistics, RcChannelsPacked, Rpm};
+pub use packets::{
+    write_packet_to_buffer, BaroAltitude, Battery, CrsfPacket, Gps, GpsExtended, LinkStatistics, RcChannelsPacked, Rpm, Temp, Voltages,
+};
 pub use parser::{CrsfParser, RawCrsfPacket, SavedParser};
 
 /// How a packet type's header is made.

@@ -202,44 +202,77 @@ impl CrsfPacket for RcChannelsPacked {
     }
 }
 
-/// Revolutions per minute of motors or propellers: at most 19 values, negative in reverse. The low 24 bits of each are written.
-#[derive(Clone, Debug, PartialEq, Eq)]
-pub struct Rpm {
-    /// Where the values come from: 0 is the first motor, 1 the second.
-    pub rpm_source_id: u8,
-    values: [i32; 19],
-    count: usize,
-}
-
-impl Rpm {
-    /// A record of 1 to 19 values.
-    pub fn new(rpm_source_id: u8, rpm_values: &[i32]) -> Result<Self, CrsfParsingError> {
-        if rpm_values.is_empty() || 19 < rpm_values.len() {
-            return Err(CrsfParsingError::InvalidPayloadLength);
+/// A record of an id and a counted run of values.
+macro_rules! run {
+    ($(#[$about:meta])* $record:ident, $packet_type:literal, $most:literal, $read:ident, $write:ident, {
+        $(#[$id_note:meta])* $id:ident, $(#[$note:meta])* $values:ident: $type:ty $(,)?
+    }) => {
+        $(#[$about])*
+        #[derive(Clone, Debug, PartialEq, Eq)]
+        pub struct $record {
+            $(#[$id_note])* pub $id: u8,
+            values: [$type; $most],
+            count: usize,
         }
-        let mut values = [0; 19];
-        values[..rpm_values.len()].copy_from_slice(rpm_values);
-        Ok(Rpm { rpm_source_id, values, count: rpm_values.len() })
-    }
 
+        impl $record {
+            #[doc = concat!("A record of 1 to ", $most, " values.")]
+            pub fn new($id: u8, $values: &[$type]) -> Result<Self, CrsfParsingError> {
+                if $values.is_empty() || $most < $values.len() {
+                    return Err(CrsfParsingError::InvalidPayloadLength);
+                }
+                let mut values = [0; $most];
+                values[..$values.len()].copy_from_slice($values);
+                Ok($record { $id, values, count: $values.len() })
+            }
+
+            $(#[$note])*
+            pub fn $values(&self) -> &[$type] {
+                &self.values[..self.count]
+            }
+        }
+
+        impl CrsfPacket for $record {
+            const PACKET_TYPE: u8 = $packet_type;
+
+            fn from_bytes(payload: &[u8]) -> Result<Self, CrsfParsingError> {
+                let mut values = [0; $most];
+                let answer = entry::$read(payload, &mut values);
+                let count = counted(answer)?;
+                Ok($record { $id: answer.first, values, count })
+            }
+
+            /// A record without values, as RPM is read from 3 bytes, is refused.
+            fn write_packet_to_buffer(&self, buffer: &mut [u8], dest: u8) -> Result<usize, CrsfParsingError> {
+                counted(entry::$write(buffer, dest, self.$id, self.$values()))
+            }
+        }
+    };
+}
+
+run!(
+/// Revolutions per minute of motors or propellers: at most 19 values, negative in reverse. The low 24 bits of each are written.
+Rpm, 0x0C, 19, read_rpm, write_rpm, {
+    /// Where the values come from: 0 is the first motor, 1 the second.
+    rpm_source_id,
     /// The values; a record that was read may have none.
-    pub fn rpm_values(&self) -> &[i32] {
-        &self.values[..self.count]
-    }
-}
+    rpm_values: i32,
+});
 
-impl CrsfPacket for Rpm {
-    const PACKET_TYPE: u8 = 0x0C;
+run!(
+/// Temperatures of one source: at most 20 values.
+Temp, 0x0D, 20, read_temp, write_temp, {
+    /// Where the values come from: 0 is the flight controller, 1 the air around it.
+    temp_source_id,
+    /// The values, in tenths of a degree Celsius: 250 is 25.0, -5 is half a degree below zero.
+    temperatures: i16,
+});
 
-    fn from_bytes(payload: &[u8]) -> Result<Self, CrsfParsingError> {
-        let mut values = [0; 19];
-        let answer = entry::read_rpm(payload, &mut values);
-        let count = counted(answer)?;
-        Ok(Rpm { rpm_source_id: answer.first, values, count })
-    }
-
-    /// A record that was read without values is refused: the entry writes 1 to 19.
-    fn write_packet_to_buffer(&self, buffer: &mut [u8], dest: u8) -> Result<usize, CrsfParsingError> {
-        counted(entry::write_rpm(buffer, dest, self.rpm_source_id, self.rpm_values()))
-    }
-}
+run!(
+/// Voltages of one source, as those of a battery's cells: at most 29 values.
+Voltages, 0x0E, 29, read_voltages, write_voltages, {
+    /// Where the values come from.
+    voltage_source_id,
+    /// The values, in millivolts: 3850 is 3.85 V.
+    voltage_values: u16,
+});

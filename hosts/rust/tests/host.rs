@@ -209,6 +209,8 @@ fn records_come_back() {
     comes_back(Battery { voltage: 120, current: 15, capacity_used: 0x010203, remaining: 50, id: 5 }, &[0, 0x78, 0, 0x0F, 1, 2, 3, 0x32, 5]);
     comes_back(BaroAltitude { altitude_packed: 0x88E5, vertical_speed_packed: -2 }, &[0x88, 0xE5, 0xFE]);
     comes_back(Rpm::new(7, &[-1, -8388608]).unwrap(), &[7, 0xFF, 0xFF, 0xFF, 0x80, 0, 0]);
+    comes_back(Temp::new(7, &[i16::MIN, -1, 0, i16::MAX]).unwrap(), &[7, 0x80, 0, 0xFF, 0xFF, 0, 0, 0x7F, 0xFF]);
+    comes_back(Voltages::new(255, &[0, 1, 0x7FFF, 0x8000, u16::MAX]).unwrap(), &[255, 0, 0, 0, 1, 0x7F, 0xFF, 0x80, 0, 0xFF, 0xFF]);
     let mut channels = [0; 16];
     channels[15] = 2047;
     let mut payload = [0; 22];
@@ -232,6 +234,52 @@ fn refusals_in_their_order() {
     assert_eq!(Gps::from_bytes(&[0; 14]), Err(CrsfParsingError::InvalidPayloadLength));
     assert_eq!(Battery::from_bytes(&[0; 7]), Err(CrsfParsingError::InvalidPayloadLength));
     assert!(Gps::from_bytes(&[0; 40]).is_ok());
+}
+
+/// The id and the values of a payload that has two bytes for each, from the layout alone.
+fn run_of<N>(payload: &[u8], most: usize, value: fn([u8; 2]) -> N) -> Result<(u8, Vec<N>), CrsfParsingError> {
+    if payload.len() < 3 || most < (payload.len() - 1) / 2 {
+        return Err(CrsfParsingError::InvalidPayloadLength);
+    }
+    Ok((payload[0], payload[1..].chunks_exact(2).map(|two| value([two[0], two[1]])).collect()))
+}
+
+#[test]
+fn runs_of_two_byte_values_read() {
+    for len in (0..=64).chain([65, 66, 128, 255, 256, 257, 511, 513, 1000]) {
+        let fills = [0x00, 0x01, 0x7F, 0x80, 0xFF].map(|fill| vec![fill; len]);
+        for payload in fills.into_iter().chain((0..20).map(|seed| noise(len, seed))) {
+            let temp = Temp::from_bytes(&payload).map(|temp| (temp.temp_source_id, temp.temperatures().to_vec()));
+            assert_eq!(temp, run_of(&payload, 20, i16::from_be_bytes), "{payload:02X?}");
+            let voltages = Voltages::from_bytes(&payload).map(|voltages| (voltages.voltage_source_id, voltages.voltage_values().to_vec()));
+            assert_eq!(voltages, run_of(&payload, 29, u16::from_be_bytes), "{payload:02X?}");
+        }
+    }
+}
+
+/// A record of 1 to `most` values was made, and comes back; one of any other count was refused.
+fn made<P: CrsfPacket + PartialEq + std::fmt::Debug>(record: Result<P, CrsfParsingError>, count: usize, most: usize, payload: &[u8]) {
+    match record {
+        Ok(record) if (1..=most).contains(&count) => comes_back(record, payload),
+        other => assert_eq!((other.err(), (1..=most).contains(&count)), (Some(CrsfParsingError::InvalidPayloadLength), false), "{count} values"),
+    }
+}
+
+#[test]
+fn runs_of_two_byte_values_written() {
+    const EXTREMES: [u16; 5] = [0, 1, 0x7FFF, 0x8000, 0xFFFF];
+    for count in 0..=35 {
+        for seed in 0..20 {
+            let mut payload = noise(1 + 2 * count, seed);
+            for (i, two) in payload[1..].chunks_exact_mut(2).enumerate().filter(|_| seed < 10) {
+                two.copy_from_slice(&EXTREMES[(i + seed as usize) % EXTREMES.len()].to_be_bytes());
+            }
+            let voltages: Vec<u16> = payload[1..].chunks_exact(2).map(|two| u16::from_be_bytes([two[0], two[1]])).collect();
+            let temperatures: Vec<i16> = voltages.iter().map(|&bits| bits as i16).collect();
+            made(Temp::new(payload[0], &temperatures), count, 20, &payload);
+            made(Voltages::new(payload[0], &voltages), count, 29, &payload);
+        }
+    }
 }
 
 #[test]
