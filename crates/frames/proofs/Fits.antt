@@ -2,10 +2,10 @@
 -- Assumes nothing.
 use mathlib.Core.Path.{_≡_, refl, sym, subst, _∙_}
 use mathlib.Core.List.{List}
-use Prim.Native.Nat.{ℕ, _≤_, _<_}
+use Prim.Native.Nat.{ℕ, _+_, _*_, _≤_, _<_}
 use mathlib.Core.Logic.{⊎-elim}
 use native.Mathlib.Omega.{arith}
-use lib.Dec.{eqb}
+use lib.Dec.{eqb, lit≤}
 use lib.IntN.{ℤ}
 use lib.ListN.{length}
 use Rattle.base.proofs.Tests.{by-test, below}
@@ -13,9 +13,16 @@ use Rattle.writing.specs.Writing.{Image, bytes, refused}
 use Rattle.channels.specs.Channels.{channelsCount, firstAbove, channelBytes, channelsImage}
 use Rattle.channels.specs.declared.RcChannelsPacked.{RcChannelsPacked}
 use Rattle.channels.proofs.Laws.{image-refused, image-bytes, channels-length}
-use Rattle.rpm.specs.Rpm.{rpmMost, rpmBytes, rpmImage, newRpmImage}
-use Rattle.rpm.specs.declared.Rpm.{Rpm}
-use Rattle.rpm.proofs.RpmLaws.{rpm-image, rpm-refused, rpm-at-most, rpm-at-least, new-at-most}
+use Rattle.series.specs.Series.{Kind, Held, heldImage, newImage}
+use Rattle.series.specs.Rpm.{rpmKind, rpmHeld, rpmImage}
+use Rattle.series.specs.Temp.{tempKind, tempHeld, tempImage}
+use Rattle.series.specs.Voltages.{voltagesKind, voltagesHeld, voltagesImage}
+use Rattle.series.specs.declared.rpm.Rpm.{Rpm}
+use Rattle.series.specs.declared.temp.Temp.{Temp}
+use Rattle.series.specs.declared.voltages.Voltages.{Voltages}
+use Rattle.series.proofs.Values.{Sound}
+use Rattle.series.proofs.SeriesLaws.{image-size, new-size}
+use Rattle.series.proofs.SoundKinds.{rpm-sound, temp-sound, voltages-sound}
 use Rattle.layout.specs.Layout.{recordBytes}
 use Rattle.records.specs.LinkStatistics.{linkStatisticsImage}
 use Rattle.positions.specs.Gps.{gpsImage}
@@ -30,7 +37,7 @@ use Rattle.records.specs.declared.baro_altitude.BaroAltitude.{BaroAltitude}
 use Rattle.positions.proofs.Laws.{gps-long, gps-extended-long}
 use Rattle.records.proofs.Laws.{link-statistics-long, baro-altitude-long}
 use Rattle.records.proofs.BatteryLaws.{battery-long}
-use Rattle.frames.specs.Frames.{Small}
+use Rattle.frames.specs.Frames.{mostPayload, Small}
 
 small-as : {image image′ : Image} → image ≡ image′ → Small image′ → Small image
 small-as e = subst Small (sym e)
@@ -42,19 +49,39 @@ channels-small c =
     (λ (good : channelsCount ≤ firstAbove (c .0)). small-as (image-bytes c good) (omega (arith, channels-length c (channelBytes (c .0)) (image-bytes c good))))
     (below (firstAbove (c .0)) channelsCount)
 
-pub rpm-small : (r : Rpm) → Small (rpmImage r)
-rpm-small r =
-    ⊎-elim
-    (λ (many : rpmMost < r .count). small-as (rpm-refused r many) tt)
-    (λ (few : r .count ≤ rpmMost). small-as (rpm-image r few) (omega (arith, rpm-at-least r, rpm-at-most r (rpmBytes r) (rpm-image r few))))
-    (below rpmMost (r .count))
+-- a series: an id, and values that are few enough
+module _ {A : Type 0} (k : Kind A) {Fits : A → Type 0} (sound : Sound k Fits) (fits : 1 + k .most * k .width ≤ mostPayload) where
+  pub series-small : (h : Held A) → Small (heldImage k h)
+  series-small h = by-image (heldImage k h) refl
+    where
+      by-image : (image : Image) → heldImage k h ≡ image → Small image
+      by-image (bytes payload) e = omega (arith, image-size k sound (h .id) (h .places) (h .count) payload e)
+      by-image (refused r) e = tt
 
-pub new-rpm-small : (id : ℕ) (vs : List ℤ) → Small (newRpmImage id vs)
-new-rpm-small id vs = by-image (newRpmImage id vs) refl
-  where
-    by-image : (image : Image) → newRpmImage id vs ≡ image → Small image
-    by-image (bytes payload) e = omega (arith, new-at-most id vs payload e)
-    by-image (refused r) e = tt
+  pub new-series-small : (id : ℕ) (vs : List A) → Small (newImage k id vs)
+  new-series-small id vs = by-image (newImage k id vs) refl
+    where
+      by-image : (image : Image) → newImage k id vs ≡ image → Small image
+      by-image (bytes payload) e = omega (arith, new-size k sound id vs payload e)
+      by-image (refused r) e = tt
+
+pub rpm-small : (r : Rpm) → Small (rpmImage r)
+rpm-small r = series-small rpmKind rpm-sound (lit≤ tt) (rpmHeld r)
+
+pub new-rpm-small : (id : ℕ) (vs : List ℤ) → Small (newImage rpmKind id vs)
+new-rpm-small = new-series-small rpmKind rpm-sound (lit≤ tt)
+
+pub temp-small : (r : Temp) → Small (tempImage r)
+temp-small r = series-small tempKind temp-sound (lit≤ tt) (tempHeld r)
+
+pub new-temp-small : (id : ℕ) (vs : List ℤ) → Small (newImage tempKind id vs)
+new-temp-small = new-series-small tempKind temp-sound (lit≤ tt)
+
+pub voltages-small : (r : Voltages) → Small (voltagesImage r)
+voltages-small r = series-small voltagesKind voltages-sound (lit≤ tt) (voltagesHeld r)
+
+pub new-voltages-small : (id : ℕ) (vs : List ℕ) → Small (newImage voltagesKind id vs)
+new-voltages-small = new-series-small voltagesKind voltages-sound (lit≤ tt)
 
 pub link-statistics-small : (x : LinkStatistics) → Small (linkStatisticsImage x)
 link-statistics-small x = omega (arith, link-statistics-long x)

@@ -14,6 +14,10 @@ use Rattle.frames.proofs.write_battery.Reads as write-battery
 use Rattle.frames.proofs.write_baro_altitude.Reads as write-baro-altitude
 use Rattle.frames.proofs.write_rpm.Reads as write-rpm
 use Rattle.frames.proofs.write_rpm_values.Reads as write-rpm-values
+use Rattle.frames.proofs.write_temp.Reads as write-temp
+use Rattle.frames.proofs.write_temp_values.Reads as write-temp-values
+use Rattle.frames.proofs.write_voltages.Reads as write-voltages
+use Rattle.frames.proofs.write_voltages_values.Reads as write-voltages-values
 
 pub write-link-statistics-one : OneAnswer {Seen = Written × List ℕ} write-link-statistics.Post (λ κs r s. (r, now (s .0)))
 write-link-statistics-one κs a r r′ s s′ = one-write
@@ -38,3 +42,15 @@ write-rpm-one κs a r r′ s s′ = one-write
 
 pub write-rpm-values-one : OneAnswer {Seen = Written × List ℕ} write-rpm-values.Post (λ κs r s. (r, now (s .0)))
 write-rpm-values-one κs a r r′ s s′ = one-write
+
+pub write-temp-one : OneAnswer {Seen = Written × List ℕ} write-temp.Post (λ κs r s. (r, now (s .0)))
+write-temp-one κs a r r′ s s′ = one-write
+
+pub write-temp-values-one : OneAnswer {Seen = Written × List ℕ} write-temp-values.Post (λ κs r s. (r, now (s .0)))
+write-temp-values-one κs a r r′ s s′ = one-write
+
+pub write-voltages-one : OneAnswer {Seen = Written × List ℕ} write-voltages.Post (λ κs r s. (r, now (s .0)))
+write-voltages-one κs a r r′ s s′ = one-write
+
+pub write-voltages-values-one : OneAnswer {Seen = Written × List ℕ} write-voltages-values.Post (λ κs r s. (r, now (s .0)))
+write-voltages-values-one κs a r r′ s s′ = one-write

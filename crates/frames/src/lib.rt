@@ -15,7 +15,9 @@ use records::baro_altitude::BaroAltitude;
 use records::battery::Battery;
 use records::link_statistics::LinkStatistics;
 use refusals::Refusal;
-use rpm::Rpm;
+use series::rpm::Rpm;
+use series::temp::Temp;
+use series::voltages::Voltages;
 use writing::Written;
 ghost use mathlib.Core.Path.{_≡_};
 ghost use Rattle.writing.specs.Writing.{writtenRow, writeOf};
@@ -25,7 +27,10 @@ ghost use Rattle.positions.specs.GpsExtended.{gpsExtendedType, gpsExtendedImage
 ghost use Rattle.records.specs.Battery.{batteryType, batteryImage};
 ghost use Rattle.records.specs.BaroAltitude.{baroAltitudeType, baroAltitudeImage};
 ghost use Rattle.channels.specs.Channels.{channelsType, channelsImage};
-ghost use Rattle.rpm.specs.Rpm.{rpmType, rpmImage, newRpmImage};
+ghost use Rattle.series.specs.Series.{newImage};
+ghost use Rattle.series.specs.Rpm.{rpmType, rpmKind, rpmImage};
+ghost use Rattle.series.specs.Temp.{tempType, tempKind, tempImage};
+ghost use Rattle.series.specs.Voltages.{voltagesType, voltagesKind, voltagesImage};
 ghost use Rattle.frames.specs.Frames.{framed};
 
 pub fn write_link_statistics(buffer: &mut [u8], dest: u8, packet: LinkStatistics) -> Written
@@ -126,13 +131,77 @@ pub fn write_rpm_values(
     rpm_source_id: u8,
     rpm_values: &[i32],
 ) -> Written
-    ensures { λ r. ⌜ (writtenRow r, now (buffer .exit)) ≡ writeOf (framed dest rpmType (newRpmImage «rpm_source_id» (now («rpm_values» .entry)))) (now (buffer .entry)) ⌝ }
+    ensures { λ r. ⌜ (writtenRow r, now (buffer .exit)) ≡ writeOf (framed dest rpmType (newImage rpmKind «rpm_source_id» (now («rpm_values» .entry)))) (now (buffer .entry)) ⌝ }
 {
     if !is_address(dest) {
         return Written::Refused(Refusal::BadAddress);
     }
     let from = payload_start(buffer.len());
     let to = from + payload_room(buffer.len());
-    let written = rpm::write_values(&mut buffer[from..to], rpm_source_id, rpm_values);
+    let written = series::rpm::write_values(&mut buffer[from..to], rpm_source_id, rpm_values);
     sealed(buffer, dest, Rpm::PACKET_TYPE, written)
+}
+
+pub fn write_temp(buffer: &mut [u8], dest: u8, packet: Temp) -> Written
+    ensures { λ r. ⌜ (writtenRow r, now (buffer .exit)) ≡ writeOf (framed dest tempType (tempImage packet)) (now (buffer .entry)) ⌝ }
+{
+    if !is_address(dest) {
+        return Written::Refused(Refusal::BadAddress);
+    }
+    let from = payload_start(buffer.len());
+    let to = from + payload_room(buffer.len());
+    let written = packet.to_bytes(&mut buffer[from..to]);
+    sealed(buffer, dest, Temp::PACKET_TYPE, written)
+}
+
+// The frame of a new record of temperatures straight from its values, of which there must be 1 to 20.
+pub fn write_temp_values(
+    buffer: &mut [u8],
+    dest: u8,
+    temp_source_id: u8,
+    temperatures: &[i16],
+) -> Written
+    ensures { λ r. ⌜ (writtenRow r, now (buffer .exit)) ≡ writeOf (framed dest tempType (newImage tempKind «temp_source_id» (now (temperatures .entry)))) (now (buffer .entry)) ⌝ }
+{
+    if !is_address(dest) {
+        return Written::Refused(Refusal::BadAddress);
+    }
+    let from = payload_start(buffer.len());
+    let to = from + payload_room(buffer.len());
+    let written = series::temp::write_values(&mut buffer[from..to], temp_source_id, temperatures);
+    sealed(buffer, dest, Temp::PACKET_TYPE, written)
+}
+
+pub fn write_voltages(buffer: &mut [u8], dest: u8, packet: Voltages) -> Written
+    ensures { λ r. ⌜ (writtenRow r, now (buffer .exit)) ≡ writeOf (framed dest voltagesType (voltagesImage packet)) (now (buffer .entry)) ⌝ }
+{
+    if !is_address(dest) {
+        return Written::Refused(Refusal::BadAddress);
+    }
+    let from = payload_start(buffer.len());
+    let to = from + payload_room(buffer.len());
+    let written = packet.to_bytes(&mut buffer[from..to]);
+    sealed(buffer, dest, Voltages::PACKET_TYPE, written)
+}
+
+// The frame of a new record of cell voltages straight from its values, of which there must be 1 to 29.
+pub fn write_voltages_values(
+    buffer: &mut [u8],
+    dest: u8,
+    voltage_source_id: u8,
+    voltage_values: &[u16],
+) -> Written
+    ensures { λ r. ⌜ (writtenRow r, now (buffer .exit)) ≡ writeOf (framed dest voltagesType (newImage voltagesKind «voltage_source_id» (now («voltage_values» .entry)))) (now (buffer .entry)) ⌝ }
+{
+    if !is_address(dest) {
+        return Written::Refused(Refusal::BadAddress);
+    }
+    let from = payload_start(buffer.len());
+    let to = from + payload_room(buffer.len());
+    let written = series::voltages::write_values(
+        &mut buffer[from..to],
+        voltage_source_id,
+        voltage_values,
+    );
+    sealed(buffer, dest, Voltages::PACKET_TYPE, written)
 }

@@ -3,7 +3,7 @@
 use mathlib.Core.Path.{_≡_, refl, sym, ap, _∙_}
 use mathlib.Core.Bool.{true}
 use mathlib.Core.List.{List, [], append-nil}
-use Prim.Native.Nat.{ℕ, _≤_}
+use Prim.Native.Nat.{ℕ, _+_, _*_, _≤_}
 use native.Mathlib.Omega.{arith}
 use lib.Dec.{eqb, lit≤}
 use lib.ListN.{length}
@@ -30,14 +30,21 @@ use Rattle.records.specs.declared.baro_altitude.BaroAltitude.{BaroAltitude}
 use Rattle.records.specs.declared.baro_altitude.BaroAltitudeRead.the-variants as baro
 use Rattle.records.proofs.Laws.{link-statistics-long, link-statistics-read-written, baro-altitude-long, baro-altitude-read-written}
 use Rattle.records.proofs.BatteryLaws.{battery-long, battery-read-written}
-use Rattle.rpm.specs.Rpm.{rpmType, rpmBytes, rpmRead, rpmImage}
-use Rattle.rpm.specs.declared.Rpm.{Rpm}
-use Rattle.rpm.proofs.RpmLaws.{Whole, rpm-image, rpm-at-most, rpm-read-written}
+use Rattle.series.specs.Series.{Kind, Held, heldRead, seriesBytes, heldImage}
+use Rattle.series.specs.Rpm.{rpmType, rpmKind, rpmOf, rpmHeld, rpmRead, rpmImage}
+use Rattle.series.specs.Temp.{tempType, tempKind, tempOf, tempHeld, tempRead, tempImage}
+use Rattle.series.specs.Voltages.{voltagesType, voltagesKind, voltagesOf, voltagesHeld, voltagesRead, voltagesImage}
+use Rattle.series.specs.declared.rpm.Rpm.{Rpm}
+use Rattle.series.specs.declared.temp.Temp.{Temp}
+use Rattle.series.specs.declared.voltages.Voltages.{Voltages}
+use Rattle.series.proofs.Values.{Sound}
+use Rattle.series.proofs.SeriesLaws.{image-bytes, image-size, Whole, held-read-written}
+use Rattle.series.proofs.SoundKinds.{rpm-sound, temp-sound, voltages-sound}
 use Rattle.channels.specs.Channels.{channelsType, channelBytes, channelsRead, channelsImage}
 use Rattle.channels.specs.Digits.{Below}
 use Rattle.channels.specs.declared.RcChannelsPacked.{RcChannelsPacked}
 use Rattle.channels.proofs.Laws.{channels-image, channels-length, channels-read-written}
-use Rattle.frames.specs.Frames.{framed}
+use Rattle.frames.specs.Frames.{framed, mostPayload}
 use Rattle.round_trips.specs.ComesBack.{ComesBack}
 use Rattle.round_trips.proofs.Frames.{comes-back}
 
@@ -80,11 +87,27 @@ module _ (dest : ℕ) (address : listed dest ≡ true) where
       comes-back dest batteryType address (batteryImage x) p refl (omega (arith, battery-long x, few-fields (x .id))) batteryRead (batteryDecoded (battery.Record x))
       (sym (battery-read-written x h))
 
-  pub rpm-comes-back : (x : Rpm) → Whole x → ComesBack (framed dest rpmType (rpmImage x)) rpmRead (readRow answer.Record, x)
-  rpm-comes-back x h =
-      let e = rpm-image x (h .few) in
-      comes-back dest rpmType address (rpmImage x) (rpmBytes x) e (omega (arith, rpm-at-most x (rpmBytes x) e)) rpmRead (readRow answer.Record, x)
-      (rpm-read-written x (rpmBytes x) h e)
+  -- a series comes back as `of` makes a record of it
+  module _ {A R : Type 0} (k : Kind A) {Fits : A → Type 0} (sound : Sound k Fits) (enough : k .leastBytes ≤ 1 + k .width) (least : k .leastValues ≤ 1)
+      (fits : 1 + k .most * k .width ≤ mostPayload) where
+    series-comes-back : (kind : ℕ) (of : List ℕ × Held A → List ℕ × R) (h : Held A) → Whole k sound h
+        → ComesBack (framed dest kind (heldImage k h)) (λ payload. of (heldRead k payload)) (of (readRow answer.Record, h))
+    series-comes-back kind of h w =
+        let p : List ℕ = seriesBytes k (h .id) (h .places) (h .count) in
+        let e = image-bytes k (h .id) (h .places) (h .count) (omega (arith, w .some)) (w .few) in
+        let size = image-size k sound (h .id) (h .places) (h .count) p e in
+        comes-back dest kind address (heldImage k h) p e (omega arith) (λ payload. of (heldRead k payload)) (of (readRow answer.Record, h))
+        (ap of (held-read-written k sound enough h p w e))
+
+  pub rpm-comes-back : (x : Rpm) → Whole rpmKind rpm-sound (rpmHeld x) → ComesBack (framed dest rpmType (rpmImage x)) rpmRead (readRow answer.Record, x)
+  rpm-comes-back x = series-comes-back rpmKind rpm-sound (lit≤ tt) (lit≤ tt) (lit≤ tt) rpmType rpmOf (rpmHeld x)
+
+  pub temp-comes-back : (x : Temp) → Whole tempKind temp-sound (tempHeld x) → ComesBack (framed dest tempType (tempImage x)) tempRead (readRow answer.Record, x)
+  temp-comes-back x = series-comes-back tempKind temp-sound (lit≤ tt) (lit≤ tt) (lit≤ tt) tempType tempOf (tempHeld x)
+
+  pub voltages-come-back : (x : Voltages) → Whole voltagesKind voltages-sound (voltagesHeld x)
+      → ComesBack (framed dest voltagesType (voltagesImage x)) voltagesRead (readRow answer.Record, x)
+  voltages-come-back x = series-comes-back voltagesKind voltages-sound (lit≤ tt) (lit≤ tt) (lit≤ tt) voltagesType voltagesOf (voltagesHeld x)
 
   pub channels-come-back : (x : RcChannelsPacked) → length (x .0) ≡ 16 → Below 11 (x .0)
       → ComesBack (framed dest channelsType (channelsImage x)) channelsRead (readRow answer.Record, x)

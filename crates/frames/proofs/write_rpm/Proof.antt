@@ -4,7 +4,7 @@ use borrow.Author.Needs.{needs}
 use borrow.Author.Tests.{not-true, not-false}
 use Rattle.base.proofs.Tests.{not-as}
 use Rattle.packets.specs.Listed.{listed}
-use Rattle.rpm.specs.Rpm.{rpmType, rpmImage}
+use Rattle.series.specs.Rpm.{rpmType, rpmImage}
 use Rattle.frames.proofs.Lent.{Framed, lent, unlisted, addressed}
 use Rattle.frames.proofs.Fits.{rpm-small}
 use Rattle.frames.proofs.write_rpm.Statement.{statement}

@@ -4,7 +4,8 @@ use borrow.Author.Needs.{needs}
 use borrow.Author.Tests.{not-true, not-false}
 use Rattle.base.proofs.Tests.{not-as}
 use Rattle.packets.specs.Listed.{listed}
-use Rattle.rpm.specs.Rpm.{rpmType, newRpmImage}
+use Rattle.series.specs.Series.{newImage}
+use Rattle.series.specs.Rpm.{rpmType, rpmKind}
 use Rattle.frames.proofs.Lent.{Framed, lent, unlisted, addressed}
 use Rattle.frames.proofs.Fits.{new-rpm-small}
 use Rattle.frames.proofs.write_rpm_values.Statement.{statement}
@@ -18,13 +19,13 @@ made : (c : tie.After-write-values)
     let start = room .before in
     let a = Start-of (start .before) .args in
     Framed (a .dest) rpmType (a .buffer .now) (start .payload-start .result) (start .payload-start .result + room .payload-room .result)
-    (newRpmImage (a .rpm-source-id) (a .rpm-values .now)) (c .write-values .result) (c .write-values .last .0))
+    (newImage rpmKind (a .rpm-source-id) (a .rpm-values .now)) (c .write-values .result) (c .write-values .last .0))
 made c =
     let room = c .before .before in
     let start = room .before in
     let a = Start-of (start .before) .args in
     lent (a .dest) rpmType (a .buffer .now) _ _ (start .payload-start .ensures) (λ i. start .payload-start .ensures i + room .payload-room .ensures .0 i)
-    (newRpmImage (a .rpm-source-id) (a .rpm-values .now)) (new-rpm-small (a .rpm-source-id) (a .rpm-values .now)) (c .write-values .ensures)
+    (newImage rpmKind (a .rpm-source-id) (a .rpm-values .now)) (new-rpm-small (a .rpm-source-id) (a .rpm-values .now)) (c .write-values .ensures)
 
 is-address-requires : tie.Need-is-address-requires
 is-address-requires c κs = search needs
@@ -32,7 +33,7 @@ is-address-requires c κs = search needs
 returns : tie.Need-returns
 returns c =
     let a = c .before .before .before .args in
-    unlisted (a .dest) rpmType (newRpmImage (a .rpm-source-id) (a .rpm-values .now)) (a .buffer .now)
+    unlisted (a .dest) rpmType (newImage rpmKind (a .rpm-source-id) (a .rpm-values .now)) (a .buffer .now)
     (not-true (listed (a .dest)) (not-as (c .before .is-address .ensures) (c .if1 .taken)))
 
 payload-start-requires : tie.Need-payload-start-requires
@@ -71,7 +72,7 @@ returns-2 c =
     let record-made = framing .before .before .before .before in
     let right = record-made .before .before .before .before in
     let a = Start-of right .args in
-    addressed (a .dest) rpmType (newRpmImage (a .rpm-source-id) (a .rpm-values .now)) (a .buffer .now)
+    addressed (a .dest) rpmType (newImage rpmKind (a .rpm-source-id) (a .rpm-values .now)) (a .buffer .now)
     (not-false (listed (a .dest)) (not-as (right .before .is-address .ensures) (right .if1 .left)))
     (made record-made) (framing .sealed .ensures)
 
