@@ -10,7 +10,7 @@ same-length : tie.Need-same-length
 same-length c = search needs
 
 returns : tie.Need-returns
-returns c = c .before .give-voltages .ensures
+returns c = c .before .before .give-voltages .ensures
 
 pub crsf-read-voltages-spec : {M : Type 1} → statement M
 crsf-read-voltages-spec = tie.close (tie.spec give-voltages-requires same-length returns)
