@@ -1,6 +1,6 @@
 -- Every entry that refuses says the number of the one definition of refusals, and the low bytes of what that carries.
 -- Assumes nothing.
-use mathlib.Core.Path.{_≡_, refl, ap, _∙_}
+use mathlib.Core.Path.{_≡_, refl, sym, ap, _∙_}
 use mathlib.Core.List.{List}
 use mathlib.Core.Logic.{⊎-elim}
 use Prim.Native.Nat.{ℕ, _%_, _≤_, _<_}
@@ -17,7 +17,9 @@ use Rattle.layout.specs.Decoded.{Decoded, refused}
 use Rattle.channels.specs.Channels.{firstAbove, channelsImage}
 use Rattle.channels.specs.declared.RcChannelsPacked.{RcChannelsPacked}
 use Rattle.channels.proofs.Laws.{image-refused, image-bytes}
-use Rattle.rpm.specs.declared.Rpm.{Rpm}
+use Rattle.series.specs.Series.{Kind, seriesRead}
+use Rattle.series.specs.declared.Series.{Series}
+use Rattle.series.specs.declared.Series.the-variants as series
 use Rattle.stream.specs.declared.step.Reply.the-variants.{Refused}
 use Rattle.frames.specs.Frames.{framed}
 use Rattle.host_state.specs.Saving.{heldRowOf, resetState, stateImage, restoreState}
@@ -25,9 +27,9 @@ use Rattle.host_answer.specs.Answer.{packed, answerRow, answers}
 use Rattle.host_answer.specs.Reply.{answerReply, Calls}
 use Rattle.host_answer.specs.Seen.{unpacked}
 use Rattle.host_answer.proofs.Fits.{call-fits}
-use Rattle.host_answer.proofs.Rows.{not-success}
+use Rattle.host_answer.proofs.Rows.{not-success, row-refusal}
 use Rattle.host_answer.proofs.Numbers.{refusalBytes, refusal-bytes, row-bytes}
-use Rattle.host_records.specs.Read.{gives, byRow, givesChannels, givesRpm}
+use Rattle.host_records.specs.Read.{gives, byRow, givesChannels, answerSeries, givesSeries}
 use Rattle.host.specs.Write.{writes}
 
 module _ (r : Refusal) where
@@ -72,9 +74,9 @@ module _ (r : Refusal) where
   unfolding givesChannels
   channels-refuse read out = beside _ out
 
-  pub rpm-refuses : (read : List ℕ × Rpm) (out : List ℤ) → read .0 ≡ rowOf r → unpacked 8 (givesRpm read out .0) ≡ refusalBytes 0 r
-  unfolding givesRpm
-  rpm-refuses read out = beside _ out
+  pub series-refuses : {A : Type 0} (k : Kind A) (payload : List ℕ) (out : List A) → seriesRead k payload out .0 ≡ series.Refused r
+      → unpacked 8 (givesSeries (seriesRead k payload out) .0) ≡ refusalBytes 0 r
+  series-refuses k payload out e = ap (λ (s : Series). unpacked 8 (packed (answerSeries s))) e ∙ row-bytes r (sym (ap packed (row-refusal r))) refl
 
 -- ---- what a byte has of a value
 

@@ -22,6 +22,8 @@ use Rattle.host.proofs.write.crsf_write_gps_extended.Reads as write-gps
 use Rattle.host.proofs.write.crsf_write_battery.Reads as write-battery
 use Rattle.host.proofs.write.crsf_write_baro_altitude.Reads as write-baro-altitude
 use Rattle.host.proofs.write.crsf_write_rpm.Reads as write-rpm
+use Rattle.host.proofs.write.crsf_write_temp.Reads as write-temp
+use Rattle.host.proofs.write.crsf_write_voltages.Reads as write-voltages
 use Rattle.host.proofs.read.crsf_read_link_statistics.Reads as read-link-statistics
 use Rattle.host.proofs.read.crsf_read_rc_channels_packed.Reads as read-rc-channels-packed
 use Rattle.host.proofs.read.crsf_read_gps.Reads as read-gps
@@ -29,6 +31,8 @@ use Rattle.host.proofs.read.crsf_read_gps_extended.Reads as read-gps-ex
 use Rattle.host.proofs.read.crsf_read_battery.Reads as read-battery
 use Rattle.host.proofs.read.crsf_read_baro_altitude.Reads as read-baro-altitude
 use Rattle.host.proofs.read.crsf_read_rpm.Reads as read-rpm
+use Rattle.host.proofs.read.crsf_read_temp.Reads as read-temp
+use Rattle.host.proofs.read.crsf_read_voltages.Reads as read-voltages
 use Rattle.host.proofs.query.crsf_is_address.Reads as is-address
 use Rattle.host.proofs.query.crsf_header_of.Reads as header-of
 use Rattle.host.proofs.query.crsf_checksum.Reads as checksum
@@ -79,6 +83,12 @@ write-baro-altitude-one κs a r r′ s s′ = same
 pub write-rpm-one : OneAnswer {Seen = ℕ × List ℕ} write-rpm.Post (λ κs r s. (r, now (s .0)))
 write-rpm-one κs a r r′ s s′ = same
 
+pub write-temp-one : OneAnswer {Seen = ℕ × List ℕ} write-temp.Post (λ κs r s. (r, now (s .0)))
+write-temp-one κs a r r′ s s′ = same
+
+pub write-voltages-one : OneAnswer {Seen = ℕ × List ℕ} write-voltages.Post (λ κs r s. (r, now (s .0)))
+write-voltages-one κs a r r′ s s′ = same
+
 -- ---- Readers
 
 pub read-link-statistics-one : OneAnswer {Seen = ℕ × List ℤ} read-link-statistics.Post (λ κs r s. (r, now (s .1 .0)))
@@ -101,6 +111,12 @@ read-baro-altitude-one κs a r r′ s s′ = same
 
 pub read-rpm-one : OneAnswer {Seen = ℕ × List ℤ} read-rpm.Post (λ κs r s. (r, now (s .1 .0)))
 read-rpm-one κs a r r′ s s′ = same
+
+pub read-temp-one : OneAnswer {Seen = ℕ × List ℤ} read-temp.Post (λ κs r s. (r, now (s .1 .0)))
+read-temp-one κs a r r′ s s′ = same
+
+pub read-voltages-one : OneAnswer {Seen = ℕ × List ℕ} read-voltages.Post (λ κs r s. (r, now (s .1 .0)))
+read-voltages-one κs a r r′ s s′ = same
 
 -- ---- Questions
 

@@ -9,6 +9,8 @@ use host_records::give_gps;
 use host_records::give_gps_extended;
 use host_records::give_link_statistics;
 use host_records::give_rpm;
+use host_records::give_temp;
+use host_records::give_voltages;
 use layout::ReadAnswer;
 use positions::gps::Gps;
 use positions::gps::GpsRead;
@@ -27,8 +29,11 @@ ghost use Rattle.positions.specs.GpsExtended.{gpsExtendedRead};
 ghost use Rattle.records.specs.Battery.{batteryRead};
 ghost use Rattle.records.specs.BaroAltitude.{baroAltitudeRead};
 ghost use Rattle.channels.specs.Channels.{channelsRead};
-ghost use Rattle.rpm.specs.Rpm.{rpmRead};
-ghost use Rattle.host_records.specs.Read.{gives, givesChannels, givesRpm};
+ghost use Rattle.series.specs.Series.{seriesRead};
+ghost use Rattle.series.specs.Rpm.{rpmKind};
+ghost use Rattle.series.specs.Temp.{tempKind};
+ghost use Rattle.series.specs.Voltages.{voltagesKind};
+ghost use Rattle.host_records.specs.Read.{gives, givesChannels, givesSeries};
 
 #[no_mangle]
 pub extern "C" fn crsf_read_link_statistics(payload: &[u8], out: &mut [i32]) -> u64
@@ -98,9 +103,24 @@ pub extern "C" fn crsf_read_rc_channels_packed(payload: &[u8], out: &mut [u16]) 
     }
 }
 
+// Of a series, the values; how many they are, and the source id, stand in the answer.
 #[no_mangle]
 pub extern "C" fn crsf_read_rpm(payload: &[u8], out: &mut [i32]) -> u64
-    ensures { λ r. ⌜ (r, now (out .exit)) ≡ givesRpm (rpmRead (now (payload .entry))) (now (out .entry)) ⌝ }
+    ensures { λ r. ⌜ (r, now (out .exit)) ≡ givesSeries (seriesRead rpmKind (now (payload .entry)) (now (out .entry))) ⌝ }
 {
     give_rpm(payload, out)
+}
+
+#[no_mangle]
+pub extern "C" fn crsf_read_temp(payload: &[u8], out: &mut [i16]) -> u64
+    ensures { λ r. ⌜ (r, now (out .exit)) ≡ givesSeries (seriesRead tempKind (now (payload .entry)) (now (out .entry))) ⌝ }
+{
+    give_temp(payload, out)
+}
+
+#[no_mangle]
+pub extern "C" fn crsf_read_voltages(payload: &[u8], out: &mut [u16]) -> u64
+    ensures { λ r. ⌜ (r, now (out .exit)) ≡ givesSeries (seriesRead voltagesKind (now (payload .entry)) (now (out .entry))) ⌝ }
+{
+    give_voltages(payload, out)
 }

@@ -18,7 +18,10 @@ ghost use Rattle.positions.specs.GpsExtended.{gpsExtendedType, gpsExtendedImage
 ghost use Rattle.records.specs.Battery.{batteryType, batteryImage};
 ghost use Rattle.records.specs.BaroAltitude.{baroAltitudeType, baroAltitudeImage};
 ghost use Rattle.channels.specs.Channels.{channelsType, channelsCount};
-ghost use Rattle.rpm.specs.Rpm.{rpmType, newRpmImage};
+ghost use Rattle.series.specs.Series.{newImage};
+ghost use Rattle.series.specs.Rpm.{rpmType, rpmKind};
+ghost use Rattle.series.specs.Temp.{tempType, tempKind};
+ghost use Rattle.series.specs.Voltages.{voltagesType, voltagesKind};
 ghost use Rattle.host.specs.Write.{linkStatisticsFrom, gpsFrom, gpsExtendedFrom, batteryFrom, baroAltitudeFrom};
 ghost use Rattle.host.specs.Write.{writes, refusedFor, sixteenImage};
 
@@ -221,7 +224,35 @@ pub extern "C" fn crsf_write_rpm(
     rpm_values: &[i32],
 ) -> u64
     ensures { λ r. ⌜ (r, now (buffer .exit)) ≡ writes dest rpmType
-        (newRpmImage «rpm_source_id» (now («rpm_values» .entry))) (now (buffer .entry)) ⌝ }
+        (newImage rpmKind «rpm_source_id» (now («rpm_values» .entry))) (now (buffer .entry)) ⌝ }
 {
     answer_written(frames::write_rpm_values(buffer, dest, rpm_source_id, rpm_values))
+}
+
+// No value, and more than 20, are refused.
+#[no_mangle]
+pub extern "C" fn crsf_write_temp(
+    buffer: &mut [u8],
+    dest: u8,
+    temp_source_id: u8,
+    temperatures: &[i16],
+) -> u64
+    ensures { λ r. ⌜ (r, now (buffer .exit)) ≡ writes dest tempType
+        (newImage tempKind «temp_source_id» (now (temperatures .entry))) (now (buffer .entry)) ⌝ }
+{
+    answer_written(frames::write_temp_values(buffer, dest, temp_source_id, temperatures))
+}
+
+// No value, and more than 29, are refused.
+#[no_mangle]
+pub extern "C" fn crsf_write_voltages(
+    buffer: &mut [u8],
+    dest: u8,
+    voltage_source_id: u8,
+    voltage_values: &[u16],
+) -> u64
+    ensures { λ r. ⌜ (r, now (buffer .exit)) ≡ writes dest voltagesType
+        (newImage voltagesKind «voltage_source_id» (now («voltage_values» .entry))) (now (buffer .entry)) ⌝ }
+{
+    answer_written(frames::write_voltages_values(buffer, dest, voltage_source_id, voltage_values))
 }

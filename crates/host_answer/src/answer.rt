@@ -19,7 +19,7 @@ pub struct HostAnswer {
     pub at: u8,
     // how many bytes a frame has, or were written, or are held; or how many numbers were read
     pub len: u8,
-    // what a refusal carries, each value by its low byte; the source id of an RPM record that was read
+    // what a refusal carries, each value by its low byte; the source id of a series that was read
     pub first: u8,
     pub second: u8,
 }

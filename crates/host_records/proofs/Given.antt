@@ -1,6 +1,6 @@
 -- What the readers for a host give: numbers copied to the front of a slice, then each record by what its reader answers.
 -- Assumes nothing.
-use mathlib.Core.Path.{_≡_, sym, ap, _∙_}
+use mathlib.Core.Path.{_≡_, refl, sym, ap, _∙_}
 use mathlib.Core.List.{List, _++_}
 use Prim.Native.Nat.{ℕ, _%_, _^_, _≤_, _<_}
 use native.Mathlib.Nat.{mod-eq-of-lt, min-le-right, zero-add}
@@ -28,15 +28,14 @@ use Rattle.records.specs.Battery.{batteryValues, batteryRead}
 use Rattle.records.specs.declared.battery.Battery.{Battery}
 use Rattle.channels.specs.Channels.{channelsRead}
 use Rattle.channels.specs.declared.RcChannelsPacked.{RcChannelsPacked}
-use Rattle.rpm.specs.Runs.{wholeIn, runRead, runRow}
-use Rattle.rpm.specs.Rpm.{rpmField, rpmRead, rpmGiven}
-use Rattle.rpm.specs.declared.runs.Run.{Run}
-use Rattle.rpm.specs.declared.runs.Run.the-variants as run
-use Rattle.rpm.specs.declared.Rpm.{Rpm}
+use Rattle.series.specs.Series.{Kind, Held, seriesRead, heldRead}
+use Rattle.series.specs.declared.Series.{Series}
+use Rattle.series.specs.declared.Series.the-variants as series
+use Rattle.series.proofs.SeriesLaws.{in-values, held-counted, lent-as-held}
 use Rattle.host_answer.specs.declared.answer.HostAnswer.{HostAnswer}
-use Rattle.host_answer.specs.Answer.{packed, answerRefusal, answerRow}
+use Rattle.host_answer.specs.Answer.{packed, inBytes, answerRefusal, answerRow}
 use Rattle.host_answer.proofs.Rows.{not-success, row-refusal}
-use Rattle.host_records.specs.Read.{given, givenAll, givenShort, gives, keptBattery, byRow, givesChannels, answerRpm, givesRpm}
+use Rattle.host_records.specs.Read.{given, givenAll, givenShort, gives, keptBattery, byRow, givesChannels, answerSeries, givesSeries}
 
 module _ {A : Type 0} (s d : List A) where
   take-counted : (n : ℕ) → take (length (take n s)) s ≡ take n s
@@ -85,44 +84,28 @@ module _ (payload out : List ℕ) {a : ReadAnswer} {x : RcChannelsPacked} (read 
   unfolding givesChannels
   channels-refused = beside-refused (λ (y : RcChannelsPacked). givenAll (y .0) out) out read
 
--- a record that is read has at most 19 values
-few-read : (payload : List ℕ) → rpmRead payload .1 .count ≤ 19
-unfolding rpmRead runRead
-few-read payload =
-    by-test (leb 3 (length payload))
-    (λ t. by-test (leb (wholeIn rpmField payload) 19) (λ u. simp (t, u) (leb-true _ 19 u)) (λ u. simp (t, u) (lit≤ tt)))
-    (λ t. simp t (lit≤ tt))
+-- ---- Series
 
--- what is answered of a run of values, by its row: the count has a byte
-abbrev answerRun : List ℕ → HostAnswer
-answerRun row = if eqb (getD row 0 0) 0 then answerRpm (getD row 2 0 % 256) (getD row 1 0) else answerRow row
+-- as many values as a series may have, and so the count of those that it has, have a byte
+module _ {A : Type 0} (k : Kind A) (some : 0 < k .leastBytes) (few : k .most < 256) (payload : List ℕ) (out : List A) where
+  fits : (s : Series) → seriesRead k payload out .0 ≡ s → inBytes (answerSeries s) ≡ answerSeries s
+  fits (series.Values id n) e =
+      let small : n < 256 = omega (arith, in-values (k .width) (k .leastBytes) (k .most) payload (length out) some e) in
+      rw (mod-eq-of-lt small)
+  fits (series.Refused r) e = refl
 
-abbrev answersRun : List ℕ × List ℤ → ℕ × List ℤ
-answersRun (row, out) = (packed (answerRun row), out)
+  pub series-given : {s : Series} {after : List A} {r : ℕ} → (s, after) ≡ seriesRead k payload out → r ≡ packed (inBytes (answerSeries s))
+      → (r, after) ≡ givesSeries (seriesRead k payload out)
+  series-given {s} {after} read answers =
+      ap (λ (n : ℕ). (n, after)) (answers ∙ ap packed (fits s (sym (ap (λ (x : Series × List A). x .0) read)))) ∙ ap givesSeries read
 
-run-answered : (payload : List ℕ) (out : List ℤ) → answersRun (rpmGiven (rpmRead payload) out) ≡ givesRpm (rpmRead payload) out
-unfolding rpmGiven givesRpm given runRow
-run-answered payload out =
-    let x : Rpm = rpmRead payload .1 in
-    let few : x .count % 256 ≡ x .count = mod-eq-of-lt (omega (arith, few-read payload)) in
-    by-test (eqb (getD (rpmRead payload .0) 0 0) 0)
-    (λ t.
-    by-test (leb (length (take (x .count) (x .«rpm_values»))) (length out))
-    (λ u. simp (t, u, few))
-    (λ u. simp (t, u, row-refusal BufferOverflow)))
-    (λ t. simp t)
-
-module _ (payload : List ℕ) (out : List ℤ) {a : Run} {after : List ℤ} (read : (runRow a, after) ≡ rpmGiven (rpmRead payload) out) where
-  by-run : {same : Run} → a ≡ same → answersRun (runRow same, after) ≡ givesRpm (rpmRead payload) out
-  by-run e = ap (λ (s : Run). answersRun (runRow s, after)) (sym e) ∙ ap answersRun read ∙ run-answered payload out
-
-  pub rpm-given : (id n : ℕ) → a ≡ run.Numbers id n → (packed (answerRpm (n % 256) id), after) ≡ givesRpm (rpmRead payload) out
-  unfolding runRow
-  rpm-given id n = by-run
-
-  pub rpm-refused : (r : Refusal) → a ≡ run.Refused r → (packed (answerRefusal r), after) ≡ givesRpm (rpmRead payload) out
-  unfolding runRow
-  rpm-refused r e = simp (not-success r, row-refusal r) at (by-run e)
+-- what a record has goes to a slice with room for it, with the count and the id beside it
+pub series-as-record :
+    {A : Type 0} (k : Kind A) (payload : List ℕ) (out : List A) (h : Held A) → heldRead k payload ≡ (readRow Record, h) → h .count ≤ length out
+    → givesSeries (seriesRead k payload out) ≡ given (answerSeries (series.Values (h .id) (h .count))) (take (h .count) (h .places)) out
+series-as-record k payload out h e room =
+    ap givesSeries (lent-as-held k payload h e out room)
+    ∙ given-all (take (h .count) (h .places)) out (answerSeries (series.Values (h .id) (h .count))) (h .count) (held-counted k payload h e) room
 
 -- ---- Records of fixed layouts, by what their reader decodes
 

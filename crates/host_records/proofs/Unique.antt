@@ -13,6 +13,8 @@ use Rattle.host_records.proofs.give_battery.Reads as give-battery
 use Rattle.host_records.proofs.give_baro_altitude.Reads as give-baro-altitude
 use Rattle.host_records.proofs.give_channels.Reads as give-channels
 use Rattle.host_records.proofs.give_rpm.Reads as give-rpm
+use Rattle.host_records.proofs.give_temp.Reads as give-temp
+use Rattle.host_records.proofs.give_voltages.Reads as give-voltages
 
 pub give-link-statistics-one : OneAnswer {Seen = ℕ × List ℤ} give-link-statistics.Post (λ κs r s. (r, now (s .1 .0)))
 give-link-statistics-one κs a r r′ s s′ = same
@@ -34,3 +36,9 @@ give-channels-one κs a r r′ s s′ = same
 
 pub give-rpm-one : OneAnswer {Seen = ℕ × List ℤ} give-rpm.Post (λ κs r s. (r, now (s .1 .0)))
 give-rpm-one κs a r r′ s s′ = same
+
+pub give-temp-one : OneAnswer {Seen = ℕ × List ℤ} give-temp.Post (λ κs r s. (r, now (s .1 .0)))
+give-temp-one κs a r r′ s s′ = same
+
+pub give-voltages-one : OneAnswer {Seen = ℕ × List ℕ} give-voltages.Post (λ κs r s. (r, now (s .1 .0)))
+give-voltages-one κs a r r′ s s′ = same

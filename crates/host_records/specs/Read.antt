@@ -4,13 +4,14 @@ use Prim.Native.Nat.{ℕ, _^_, _%_}
 use mathlib.Core.List.{List, _++_}
 use lib.Dec.{eqb, leb}
 use lib.IntN.{ℤ}
-use lib.ListN.{length, getD, take, drop}
+use lib.ListN.{length, getD, drop}
 use Rattle.base.specs.Choice.{if_then_else_}
 use Rattle.refusals.specs.declared.Refusal.the-variants.{BufferOverflow}
 use Rattle.layout.specs.Decoded.{Decoded, decoded, refused}
 use Rattle.records.specs.declared.battery.Battery.{Battery}
 use Rattle.channels.specs.declared.RcChannelsPacked.{RcChannelsPacked}
-use Rattle.rpm.specs.declared.Rpm.{Rpm}
+use Rattle.series.specs.declared.Series.{Series}
+use Rattle.series.specs.declared.Series.the-variants.{Values, Refused}
 use Rattle.host_answer.specs.declared.answer.HostAnswer.{HostAnswer}
 use Rattle.host_answer.specs.Answer.{packed, answerCount, answerRefusal, answerRow, inBytes}
 
@@ -49,14 +50,11 @@ byRow row whole out = if eqb (getD row 0 0) 0 then whole else (packed (answerRow
 unfoldable pub givesChannels : List ℕ × RcChannelsPacked → List ℕ → ℕ × List ℕ
 givesChannels read out = byRow (read .0) (givenAll (read .1 .0) out) out
 
--- how many values, and the source id
-abbrev pub answerRpm : ℕ → ℕ → HostAnswer
-answerRpm n id = record { number = 0; taken = 0; in_state = 0; at = 0; len = n; first = id; second = 0 }
+-- how many values of a series, and the source id; or the refusal
+abbrev pub answerSeries : Series → HostAnswer
+answerSeries (Values id n) = record { number = 0; taken = 0; in_state = 0; at = 0; len = n; first = id; second = 0 }
+answerSeries (Refused r) = answerRefusal r
 
--- .. and the values themselves
-abbrev pub runOf : ℕ → Rpm → List ℤ → ℕ × List ℤ
-runOf n x out = given (answerRpm n (x .«rpm_source_id»)) (take (x .count) (x .«rpm_values»)) out
-
--- a record that was read has at most 19 values: the answer has the count itself
-unfoldable pub givesRpm : List ℕ × Rpm → List ℤ → ℕ × List ℤ
-givesRpm read out = byRow (read .0) (runOf (read .1 .count) (read .1) out) out
+-- a series that was read, and the slice with its values at the front
+abbrev pub givesSeries : {A : Type 0} → Series × List A → ℕ × List A
+givesSeries (s, out) = (packed (answerSeries s), out)

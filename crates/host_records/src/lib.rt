@@ -14,7 +14,7 @@ use records::baro_altitude::BaroAltitude;
 use records::battery::Battery;
 use records::link_statistics::LinkStatistics;
 use refusals::Refusal;
-use rpm::runs::Run;
+use series::Series;
 ghost use mathlib.Core.Path.{_≡_};
 ghost use lib.ListN.{length, take};
 ghost use Rattle.positions.specs.Gps.{gpsValues};
@@ -22,8 +22,12 @@ ghost use Rattle.positions.specs.GpsExtended.{gpsExtendedValues};
 ghost use Rattle.records.specs.LinkStatistics.{linkStatisticsValues};
 ghost use Rattle.records.specs.Battery.{batteryValues};
 ghost use Rattle.records.specs.BaroAltitude.{baroAltitudeValues};
-ghost use Rattle.rpm.specs.Rpm.{rpmRead};
-ghost use Rattle.host_records.specs.Read.{given, givenShort, givenAll, keptBattery, answerRpm, givesRpm};
+ghost use Rattle.series.specs.Series.{seriesRead};
+ghost use Rattle.series.specs.Rpm.{rpmKind};
+ghost use Rattle.series.specs.Temp.{tempKind};
+ghost use Rattle.series.specs.Voltages.{voltagesKind};
+ghost use Rattle.host_answer.specs.Answer.{packed, inBytes};
+ghost use Rattle.host_records.specs.Read.{given, givenShort, givenAll, keptBattery, answerSeries, givesSeries};
 
 // How many values the first n are: n, or all that there are.
 fn at_most(values: &[i32], n: usize) -> usize
@@ -176,28 +180,39 @@ pub fn give_channels(channels: RcChannelsPacked, out: &mut [u16]) -> u64
     give_all_channels(&all, out)
 }
 
-// How many RPM values were read, and the source id.
-fn answer_rpm(n: u8, id: u8) -> HostAnswer
-    ensures { λ r. ⌜ r ≡ answerRpm n id ⌝ }
+// How many values of a series were read, and the source id; or the refusal.
+fn answer_series(read: Series) -> u64
+    ensures { λ r. ⌜ r ≡ packed (inBytes (answerSeries read)) ⌝ }
 {
-    HostAnswer {
-        number: 0,
-        taken: 0,
-        in_state: 0,
-        at: 0,
-        len: n,
-        first: id,
-        second: 0,
+    match read {
+        Series::Values(id, n) => pack(HostAnswer {
+            number: 0,
+            taken: 0,
+            in_state: 0,
+            at: 0,
+            len: narrow(n),
+            first: id,
+            second: 0,
+        }),
+        Series::Refused(refusal) => refuse(refusal),
     }
 }
 
-// The values of an RPM payload go straight to the slice.
+// The values of a payload go straight to the slice.
 pub fn give_rpm(payload: &[u8], out: &mut [i32]) -> u64
-    ensures { λ r. ⌜ (r, now (out .exit)) ≡ givesRpm (rpmRead (now (payload .entry))) (now (out .entry)) ⌝ }
+    ensures { λ r. ⌜ (r, now (out .exit)) ≡ givesSeries (seriesRead rpmKind (now (payload .entry)) (now (out .entry))) ⌝ }
 {
-    let run = rpm::read_values(payload, out);
-    match run {
-        Run::Numbers(id, n) => pack(answer_rpm(narrow(n), id)),
-        Run::Refused(refusal) => refuse(refusal),
-    }
+    answer_series(series::rpm::read_values(payload, out))
+}
+
+pub fn give_temp(payload: &[u8], out: &mut [i16]) -> u64
+    ensures { λ r. ⌜ (r, now (out .exit)) ≡ givesSeries (seriesRead tempKind (now (payload .entry)) (now (out .entry))) ⌝ }
+{
+    answer_series(series::temp::read_values(payload, out))
+}
+
+pub fn give_voltages(payload: &[u8], out: &mut [u16]) -> u64
+    ensures { λ r. ⌜ (r, now (out .exit)) ≡ givesSeries (seriesRead voltagesKind (now (payload .entry)) (now (out .entry))) ⌝ }
+{
+    answer_series(series::voltages::read_values(payload, out))
 }
