@@ -49,7 +49,7 @@ channels-small c =
     (λ (good : channelsCount ≤ firstAbove (c .0)). small-as (image-bytes c good) (omega (arith, channels-length c (channelBytes (c .0)) (image-bytes c good))))
     (below (firstAbove (c .0)) channelsCount)
 
--- a series: an id, and values that are few enough
+-- a series of so few values, behind their id
 module _ {A : Type 0} (k : Kind A) {Fits : A → Type 0} (sound : Sound k Fits) (fits : 1 + k .most * k .width ≤ mostPayload) where
   pub series-small : (h : Held A) → Small (heldImage k h)
   series-small h = by-image (heldImage k h) refl
