@@ -2,16 +2,15 @@
 -- Assumes nothing.
 use mathlib.Core.Path.{_≡_, refl, sym, ap, _∙_}
 use mathlib.Core.List.{List, _++_}
-use Prim.Native.Nat.{ℕ, _%_, _^_, _≤_, _<_}
+use Prim.Native.Nat.{ℕ, _^_, _≤_, _<_}
 use native.Mathlib.Nat.{mod-eq-of-lt, min-le-right, zero-add}
 use native.Mathlib.Omega.{arith}
 use borrow.Author.Tests.{le-leb, lt-leb, leb-true}
-use lib.Dec.{eqb, leb, lit≤, lit<}
+use lib.Dec.{leb, lit<}
 use lib.IntN.{ℤ}
-use lib.ListN.{length, getD, take, drop, length-take, take-append-drop}
+use lib.ListN.{length, take, drop, length-take, take-append-drop}
 use lib.Seq.{take-append-seam}
 use Rattle.base.specs.Bytes.{Bytes}
-use Rattle.base.specs.Choice.{if_then_else_}
 use Rattle.base.specs.Parts.{part, copied}
 use Rattle.base.proofs.Parts.{length-part, bytes-part, copied-fits}
 use Rattle.base.proofs.Tests.{by-test}
@@ -33,7 +32,7 @@ use Rattle.series.specs.declared.Series.{Series}
 use Rattle.series.specs.declared.Series.the-variants as series
 use Rattle.series.proofs.SeriesLaws.{in-values, held-counted, lent-as-held}
 use Rattle.host_answer.specs.declared.answer.HostAnswer.{HostAnswer}
-use Rattle.host_answer.specs.Answer.{packed, inBytes, answerRefusal, answerRow}
+use Rattle.host_answer.specs.Answer.{packed, inBytes, answerRefusal}
 use Rattle.host_answer.proofs.Rows.{not-success, row-refusal}
 use Rattle.host_records.specs.Read.{given, givenAll, givenShort, gives, keptBattery, byRow, givesChannels, answerSeries, givesSeries}
 

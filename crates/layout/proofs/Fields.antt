@@ -1,17 +1,16 @@
 -- Laws of fixed records, over the layout.
 -- Assumes nothing.
 use mathlib.Core.Path.{_≡_, refl, sym, ap, _∙_}
-use mathlib.Core.List.{List, [], _∷_, _++_, append-assoc, append-nil}
-use Prim.Native.Nat.{ℕ, zero, suc, _+_, _*_, _^_, _≤_, _<_}
-use native.Mathlib.Nat.{mod-eq-of-lt, le-of-eq, add-zero, add-assoc, add-comm, zero-mul, suc-mul, mul-le-mul-right}
-use native.Mathlib.Numerals.{add-one}
+use mathlib.Core.List.{List, [], _∷_, _++_, append-assoc}
+use Prim.Native.Nat.{ℕ, suc, _+_, _^_, _≤_, _<_}
+use native.Mathlib.Nat.{mod-eq-of-lt, le-of-eq}
 use native.Mathlib.Omega.{arith}
 use mathlib.Core.Bool.{Bool, true, false}
 use lib.IntN.{ℤ, pos}
 use lib.Signed.{mag}
-use lib.ListN.{length, getD, take, drop, set, replicate, length-append, length-replicate, replicate-append-replicate}
+use lib.ListN.{length, take, drop, length-append}
 use borrow.Author.Tests.{le-leb}
-use lib.Seq.{drop-cons, set-at, append-snoc, take-all, take-suc, length-take-le, take-at, drop-at, take-add, drop-drop}
+use lib.Seq.{take-all, take-at, drop-at, take-add, drop-drop}
 use Rattle.base.specs.Bytes.{Bytes}
 use Rattle.numbers.specs.BigEndian.{beOf, bytesOf}
 use Rattle.numbers.specs.TwosComplement.{twosOf}
@@ -105,65 +104,3 @@ readAs-written fs make refusal vs after h =
 pub written-payload :
     (fs : List Field) (bs : List ℕ) → Bytes bs → length bs ≡ sizeOf fs → recordBytes fs (readFrom fs 0 bs) ≡ bs
 written-payload fs bs b e = written-read fs 0 bs b (omega arith) ∙ take-all (sizeOf fs) bs (omega arith)
-
--- ---- runs of one field
-
-pub readFrom-append :
-    (fs gs : List Field) (at : ℕ) (bs : List ℕ) → readFrom (fs ++ gs) at bs ≡ readFrom fs at bs ++ readFrom gs (at + sizeOf fs) bs
-readFrom-append [] gs at bs = rw add-zero
-readFrom-append (f ∷ fs) gs at bs =
-    ap (λ (l : List ℤ). valueOf f (part bs at (f .width)) ∷ l)
-    (readFrom-append fs gs (at + f .width) bs ∙ rw add-assoc)
-
-pub recordBytes-append :
-    (fs gs : List Field) (vs us : List ℤ) → length vs ≡ length fs
-    → recordBytes (fs ++ gs) (vs ++ us) ≡ recordBytes fs vs ++ recordBytes gs us
-recordBytes-append [] gs [] us e = refl
-recordBytes-append [] gs (v ∷ vs) us e = absurd (omega arith)
-recordBytes-append (f ∷ fs) gs [] us e = absurd (omega arith)
-recordBytes-append (f ∷ fs) gs (v ∷ vs) us e =
-    ap (λ (l : List ℕ). bytesFor f v ++ l) (recordBytes-append fs gs vs us (omega arith))
-    ∙ sym (append-assoc (bytesFor f v) (recordBytes fs vs) (recordBytes gs us))
-
-pub length-readFrom : (fs : List Field) (at : ℕ) (bs : List ℕ) → length (readFrom fs at bs) ≡ length fs
-length-readFrom [] at bs = refl
-length-readFrom (f ∷ fs) at bs = ap suc (length-readFrom fs (at + f .width) bs)
-
-module _ (f : Field) where
-  pub sizeOf-run : (n : ℕ) → sizeOf (replicate n f) ≡ n * f .width
-  sizeOf-run zero = sym (zero-mul (f .width))
-  sizeOf-run (suc n) = rw (sizeOf-run n, suc-mul) (add-comm (f .width) (n * f .width))
-
-  run-more : (n : ℕ) → replicate (n + 1) f ≡ replicate n f ++ (f ∷ [])
-  run-more n = sym (replicate-append-replicate n 1 f)
-
-  -- one number more, read ..
-  pub read-more :
-      (n at : ℕ) (bs : List ℕ)
-      → readFrom (replicate (n + 1) f) at bs
-      ≡ readFrom (replicate n f) at bs ++ (valueOf f (part bs (at + n * f .width) (f .width)) ∷ [])
-  read-more n at bs = rw (run-more n, readFrom-append, sizeOf-run n)
-
-  -- .. and written
-  pub bytes-more :
-      (n : ℕ) (vs : List ℤ) → n < length vs
-      → recordBytes (replicate (n + 1) f) (take (n + 1) vs)
-      ≡ recordBytes (replicate n f) (take n vs) ++ bytesFor f (getD vs n (pos 0))
-  bytes-more n vs h =
-      let same : length (take n vs) ≡ length (replicate n f) = length-take-le n vs (omega arith) ∙ sym (length-replicate n f) in
-      rw (run-more n, add-one, take-suc vs n (pos 0) h, recordBytes-append (replicate n f) (f ∷ []) (take n vs) (getD vs n (pos 0) ∷ []) same, append-nil)
-
--- the next of n numbers of w bytes ends within them
-pub next-fits : (i n w : ℕ) → i < n → i * w + w ≤ n * w
-next-fits i n w h = rw (← suc-mul) (mul-le-mul-right w h)
-
-pub next-place : (i w : ℕ) → (i + 1) * w ≡ i * w + w
-next-place i w = rw (add-one, suc-mul)
-
--- a list filled from the front: a store at the next place
-pub filled-more :
-    (xs d : List ℤ) (i : ℕ) (v : ℤ) → length xs ≡ i → i < length d
-    → set (xs ++ drop i d) i v ≡ xs ++ (v ∷ []) ++ drop (i + 1) d
-filled-more xs d i v e h =
-    rw (drop-cons d i (pos 0) h, set-at xs (getD d i (pos 0)) (drop (suc i) d) v i e, add-one)
-    (sym (append-snoc xs v (drop (suc i) d)))
