@@ -37,12 +37,12 @@
  *     crsf_write_rc_channels_packed     448        crsf_write_gps                    384
  *     crsf_write_gps_extended           432        crsf_write_battery                368
  *     crsf_write_baro_altitude          352        crsf_write_rpm                    368
- *     crsf_write_temp                     ?        crsf_write_voltages                 ?
+ *     crsf_write_temp                   368        crsf_write_voltages               368
  *     crsf_read_link_statistics          24        crsf_read_rc_channels_packed       56
  *     crsf_read_gps                      24        crsf_read_gps_extended             24
  *     crsf_read_battery                  24        crsf_read_baro_altitude            24
- *     crsf_read_rpm                      24        crsf_read_temp                      ?
- *     crsf_read_voltages                  ?
+ *     crsf_read_rpm                      24        crsf_read_temp                     64
+ *     crsf_read_voltages                 88
  */
 #ifndef CRSF_H
 #define CRSF_H
@@ -56,7 +56,7 @@
 #define CRSF_VERSION_MAJOR 0
 #define CRSF_VERSION_MINOR 1
 #define CRSF_VERSION_PATCH 0
-#define CRSF_VERSION "0.1.0"
+#define CRSF_VERSION "0.2.0"
 
 #ifdef __cplusplus
 extern "C" {

@@ -305,13 +305,13 @@ static void records(void)
         CHECK(b[i] == 0xAA);
 }
 
-/* An id and a counted run of values of two bytes: temperatures and voltages, both by the bits of their values. */
-typedef struct run {
+/* A series, an id and values, of two bytes a value: temperatures and voltages, both by the bits of their values. */
+typedef struct series {
     uint8_t type;
     size_t most;
     crsf_answer (*read)(const uint8_t *payload, size_t payload_len, uint16_t *out, size_t out_len);
     crsf_answer (*write)(uint8_t *buffer, size_t buffer_len, uint8_t dest, uint8_t id, const uint16_t *values, size_t values_len);
-} run;
+} series;
 
 static crsf_answer read_temp_bits(const uint8_t *payload, size_t payload_len, uint16_t *out, size_t out_len)
 {
@@ -323,12 +323,12 @@ static crsf_answer write_temp_bits(uint8_t *buffer, size_t buffer_len, uint8_t d
     return crsf_write_temp(buffer, buffer_len, dest, id, (const int16_t *)values, values_len);
 }
 
-enum { RUN_PLACES = 40, RUN_BUFFER = 80, RUN_PAYLOAD = 1000 };
+enum { SERIES_PLACES = 40, SERIES_BUFFER = 80, SERIES_PAYLOAD = 1000 };
 
 /* What a reader is to answer and to leave in its places, from the layout alone. */
-static void run_reads(const run *r, const uint8_t *payload, size_t n, size_t lent)
+static void series_reads(const series *r, const uint8_t *payload, size_t n, size_t lent)
 {
-    uint16_t want[RUN_PLACES], got[RUN_PLACES];
+    uint16_t want[SERIES_PLACES], got[SERIES_PLACES];
     memset(want, 0x77, sizeof want);
     memset(got, 0x77, sizeof got);
     const crsf_answer a = r->read(payload, n, got, lent);
@@ -346,9 +346,9 @@ static void run_reads(const run *r, const uint8_t *payload, size_t n, size_t len
 }
 
 /* What a writer is to answer and to leave in its buffer, from the layout alone. The payload that it wrote is read as the values. */
-static void run_writes(const run *r, uint8_t dest, uint8_t id, const uint16_t *values, size_t n, size_t lent)
+static void series_writes(const series *r, uint8_t dest, uint8_t id, const uint16_t *values, size_t n, size_t lent)
 {
-    uint8_t want[RUN_BUFFER], got[RUN_BUFFER];
+    uint8_t want[SERIES_BUFFER], got[SERIES_BUFFER];
     memset(want, 0xAA, sizeof want);
     memset(got, 0xAA, sizeof got);
     const crsf_answer a = r->write(got, lent, dest, id, values, n);
@@ -360,7 +360,7 @@ static void run_writes(const run *r, uint8_t dest, uint8_t id, const uint16_t *v
         CHECK(refusal(a, CRSF_BUFFER_OVERFLOW));
     else {
         const uint8_t head[] = {dest, (uint8_t)(3 + 2 * n), r->type, id};
-        uint16_t back[RUN_PLACES];
+        uint16_t back[SERIES_PLACES];
         memcpy(want, head, sizeof head);
         for (size_t i = 0; i < n; i++) {
             want[4 + 2 * i] = (uint8_t)(values[i] / 256);
@@ -376,34 +376,34 @@ static void run_writes(const run *r, uint8_t dest, uint8_t id, const uint16_t *v
 
 /* Every payload of 0 to 64 bytes and some longer, into every number of places; every count of values, up to six too many, into every buffer, to
  * addresses and to others. */
-static void runs(void)
+static void each_series(void)
 {
-    const run all[] = {
+    const series all[] = {
         {CRSF_TYPE_TEMP, CRSF_TEMPERATURES_MAX, read_temp_bits, write_temp_bits},
         {CRSF_TYPE_VOLTAGES, CRSF_VOLTAGE_VALUES_MAX, crsf_read_voltages, crsf_write_voltages},
     };
-    const size_t longer[] = {65, 66, 127, 128, 129, 255, 256, 257, 258, 259, 511, 512, 513, 515, RUN_PAYLOAD};
+    const size_t longer[] = {65, 66, 127, 128, 129, 255, 256, 257, 258, 259, 511, 512, 513, 515, SERIES_PAYLOAD};
     const uint16_t extremes[] = {0, 1, 0x00FF, 0x0100, 0x7FFE, 0x7FFF, 0x8000, 0x8001, 0xFEFF, 0xFFFE, 0xFFFF};
     const uint8_t dests[] = {0xC8, 0xC9, 0x00, 0xFF};
     enum { EXTREMES = sizeof extremes / sizeof *extremes };
-    uint8_t payload[RUN_PAYLOAD];
-    uint16_t values[RUN_PLACES];
-    for (const run *r = all; r < all + 2; r++) {
+    uint8_t payload[SERIES_PAYLOAD];
+    uint16_t values[SERIES_PLACES];
+    for (const series *r = all; r < all + 2; r++) {
         for (unsigned shift = 0; shift <= EXTREMES; shift++) {
-            for (size_t i = 0; i < RUN_PLACES; i++)
+            for (size_t i = 0; i < SERIES_PLACES; i++)
                 values[i] = shift < EXTREMES ? extremes[(i + shift) % EXTREMES] : (uint16_t)(i * 40503u + 12345u);
-            for (size_t i = 0; i < RUN_PAYLOAD; i++)
-                payload[i] = (uint8_t)(values[i / 2 % RUN_PLACES] >> (i % 2 ? 0 : 8));
+            for (size_t i = 0; i < SERIES_PAYLOAD; i++)
+                payload[i] = (uint8_t)(values[i / 2 % SERIES_PLACES] >> (i % 2 ? 0 : 8));
             for (size_t lent = 0; lent <= r->most + 2; lent++) {
                 for (size_t n = 0; n <= 64; n++)
-                    run_reads(r, payload + shift % 2, n, lent);
+                    series_reads(r, payload + shift % 2, n, lent);
                 for (size_t i = 0; i < sizeof longer / sizeof *longer; i++)
-                    run_reads(r, payload, longer[i], lent);
+                    series_reads(r, payload, longer[i], lent);
             }
             for (size_t n = 0; n <= r->most + 6; n++)
                 for (size_t lent = 0; lent <= 70; lent++)
                     for (size_t i = 0; i < sizeof dests; i++)
-                        run_writes(r, dests[i], (uint8_t)(shift * 23 + n), values, n, lent);
+                        series_writes(r, dests[i], (uint8_t)(shift * 23 + n), values, n, lent);
         }
         CHECK(refusal(r->read(NULL, 0, NULL, 0), CRSF_INVALID_PAYLOAD_LENGTH));
         CHECK(refusal(r->read(payload, 3, NULL, 0), CRSF_BUFFER_OVERFLOW));
@@ -474,7 +474,7 @@ int main(void)
     saves();
     stream();
     records();
-    runs();
+    each_series();
     queries();
     microseconds();
     raw_views();

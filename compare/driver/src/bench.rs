@@ -391,7 +391,7 @@ fn empty_rows(rows: &mut Rows) {
     });
 }
 
-/// So many values of a run, in their type, to which `narrow` takes them.
+/// So many values of a series, in their type, to which `narrow` takes them.
 fn values_of<N, const COUNT: usize>(f: &[i64], narrow: fn(i64) -> N) -> [N; COUNT] {
     std::array::from_fn(|i| narrow(f.get(1 + i).copied().unwrap_or(i as i64)))
 }

@@ -109,7 +109,7 @@ fn read(pages: &mut Pages, r: usize, record: &Record, payload: &[u8]) {
     match (record.read_rust)(payload, &mut fields) {
         Err(refusal) => a.number = number_of(refusal),
         Ok(()) => {
-            a.first = if record.is_run() { fields.remove(0) as u8 } else { 0 };
+            a.first = if record.is_series() { fields.remove(0) as u8 } else { 0 };
             a.len = fields.len() as u8;
         }
     }

@@ -8,7 +8,7 @@ use uf_crsf::{CrsfParsingError, PacketAddress};
 
 type RustAnswer = Result<usize, CrsfParsingError>;
 
-/// One kind of record on both sides. Its fields are numbers in the struct's order; of a run the id, then the values.
+/// One kind of record on both sides. Its fields are numbers in the struct's order; of a series the id, then the values.
 pub struct Record {
     pub name: &'static str,
     /// The least and the greatest of each field's type.
@@ -54,12 +54,12 @@ fn channels(f: &[i64]) -> [u16; 16] {
     std::array::from_fn(|i| f[i] as u16)
 }
 
-/// The values of a run, in their type, to which `narrow` takes them.
+/// The values of a series, in their type, to which `narrow` takes them.
 fn values<N>(f: &[i64], narrow: fn(i64) -> N) -> Vec<N> {
     f[1..].iter().map(|&x| narrow(x)).collect()
 }
 
-/// The ranges of a run: of the id, then of `FIELDS - 1` values.
+/// The ranges of a series: of the id, then of `FIELDS - 1` values.
 const fn run_ranges<const FIELDS: usize>(values: (i64, i64)) -> [(i64, i64); FIELDS] {
     let mut ranges = [values; FIELDS];
     ranges[0] = U8;
@@ -247,15 +247,15 @@ pub fn number_of(refusal: CrsfParsingError) -> u8 {
 }
 
 impl Record {
-    /// Whether it is a run: an id and a counted run of values.
-    pub fn is_run(&self) -> bool {
+    /// Whether it is a series: an id, then values of one width.
+    pub fn is_series(&self) -> bool {
         ["RPM", "temperatures", "voltages"].contains(&self.name)
     }
 
     /// What is not compared when written: temperatures and voltages without a value, an id alone. The Rust makes and writes them, ours refuses them
     /// with 4 (docs/DIFFERENCES.md). RPM without a value is refused by both.
     pub fn is_left_out(&self, fields: &[i64]) -> bool {
-        self.is_run() && self.name != "RPM" && fields.len() == 1
+        self.is_series() && self.name != "RPM" && fields.len() == 1
     }
 
     /// What both sides write of these fields into a buffer of that many bytes, amid others. None where all agree.
@@ -294,7 +294,7 @@ impl Record {
         let expected = match (self.read_rust)(payload, scratch) {
             Err(refusal) => Answer::refusal(number_of(refusal)),
             Ok(()) => {
-                let first = if self.is_run() { scratch.remove(0) as u8 } else { 0 };
+                let first = if self.is_series() { scratch.remove(0) as u8 } else { 0 };
                 Answer { number: ours::OK, len: scratch.len() as u8, first, ..Answer::default() }
             }
         };
@@ -315,10 +315,10 @@ impl Record {
         }
     }
 
-    /// Fields at random: of a run, any count of values that is compared.
+    /// Fields at random: of a series, any count of values that is compared.
     pub fn random_fields(&self, r: &mut Rng) -> Vec<i64> {
         let least = if self.is_left_out(&[0]) { 2 } else { 1 };
-        let n = if self.is_run() { least + r.below(self.ranges.len() + 1 - least) } else { self.ranges.len() };
+        let n = if self.is_series() { least + r.below(self.ranges.len() + 1 - least) } else { self.ranges.len() };
         (0..n).map(|i| self.random_field(r, i)).collect()
     }
 }
@@ -353,10 +353,10 @@ fn smallest_payload(record: &Record, payload: &[u8]) -> String {
     record.read_differs(&p, &mut scratch).unwrap_or_else(|| "differs, and not when run again".to_string())
 }
 
-/// Takes values off the end (of a run), and makes fields 0, as long as something still differs.
+/// Takes values off the end (of a series), and makes fields 0, as long as something still differs.
 fn smallest_fields(record: &Record, fields: &[i64], dest: u8, len: usize, fill: u8) -> String {
     let mut f = fields.to_vec();
-    while record.is_run() && f.len() > 1 {
+    while record.is_series() && f.len() > 1 {
         let fewer = &f[..f.len() - 1];
         if record.is_left_out(fewer) || record.write_differs(fewer, dest, len, fill).is_none() {
             break;
@@ -439,8 +439,8 @@ pub fn compare(report: &mut Report, seed: u64, random: u64) {
             }
         }
     });
-    run(report, "records written: runs of 0 to 35 values, single channels", &mut |s, record| {
-        for n in (0..=35).filter(|_| record.is_run()) {
+    run(report, "records written: series of 0 to 35 values, single channels", &mut |s, record| {
+        for n in (0..=35).filter(|_| record.is_series()) {
             for (dest, len) in [0xC8, 0xC9].into_iter().flat_map(|dest| (0..=70).map(move |len| (dest, len))) {
                 let fields: Vec<i64> = (0..=n).map(|i| record.random_field(&mut s.rng, i.min(record.ranges.len() - 1))).collect();
                 if !record.is_left_out(&fields) {
@@ -530,7 +530,7 @@ fn beyond(report: &mut Report) {
                 let payload: Vec<u8> = (0..len).map(|i| (i * 29 + 131) as u8).collect();
                 let mut fields = vec![];
                 let read = (record.read_rust)(&payload, &mut fields);
-                let wanted = fields.len() - usize::from(record.is_run() && read.is_ok());
+                let wanted = fields.len() - usize::from(record.is_series() && read.is_ok());
                 let mut out = Out::new(lent);
                 let got = (record.read_ours)(&payload, &mut out);
                 let number = match read {

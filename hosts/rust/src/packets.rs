@@ -202,8 +202,8 @@ impl CrsfPacket for RcChannelsPacked {
     }
 }
 
-/// A record of an id and a counted run of values.
-macro_rules! run {
+/// A series: an id, then values of one type.
+macro_rules! series {
     ($(#[$about:meta])* $record:ident, $packet_type:literal, $most:literal, $read:ident, $write:ident, {
         $(#[$id_note:meta])* $id:ident, $(#[$note:meta])* $values:ident: $type:ty $(,)?
     }) => {
@@ -250,7 +250,7 @@ macro_rules! run {
     };
 }
 
-run!(
+series!(
 /// Revolutions per minute of motors or propellers: at most 19 values, negative in reverse. The low 24 bits of each are written.
 Rpm, 0x0C, 19, read_rpm, write_rpm, {
     /// Where the values come from: 0 is the first motor, 1 the second.
@@ -259,7 +259,7 @@ Rpm, 0x0C, 19, read_rpm, write_rpm, {
     rpm_values: i32,
 });
 
-run!(
+series!(
 /// Temperatures of one source: at most 20 values.
 Temp, 0x0D, 20, read_temp, write_temp, {
     /// Where the values come from: 0 is the flight controller, 1 the air around it.
@@ -268,7 +268,7 @@ Temp, 0x0D, 20, read_temp, write_temp, {
     temperatures: i16,
 });
 
-run!(
+series!(
 /// Voltages of one source, as those of a battery's cells: at most 29 values.
 Voltages, 0x0E, 29, read_voltages, write_voltages, {
     /// Where the values come from.
