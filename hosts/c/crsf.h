@@ -54,7 +54,7 @@
 
 /* The version of this header and of the archive, and nowhere else decided: CHANGELOG.md says what changed. */
 #define CRSF_VERSION_MAJOR 0
-#define CRSF_VERSION_MINOR 1
+#define CRSF_VERSION_MINOR 2
 #define CRSF_VERSION_PATCH 0
 #define CRSF_VERSION "0.2.0"
 
