@@ -138,7 +138,7 @@ pub fn write_rpm_values(
     }
     let from = payload_start(buffer.len());
     let to = from + payload_room(buffer.len());
-    let written = series::rpm::write_values(&mut buffer[from..to], rpm_source_id, rpm_values);
+    let written = Rpm::write_values(&mut buffer[from..to], rpm_source_id, rpm_values);
     sealed(buffer, dest, Rpm::PACKET_TYPE, written)
 }
 
@@ -168,7 +168,7 @@ pub fn write_temp_values(
     }
     let from = payload_start(buffer.len());
     let to = from + payload_room(buffer.len());
-    let written = series::temp::write_values(&mut buffer[from..to], temp_source_id, temperatures);
+    let written = Temp::write_values(&mut buffer[from..to], temp_source_id, temperatures);
     sealed(buffer, dest, Temp::PACKET_TYPE, written)
 }
 
@@ -198,10 +198,6 @@ pub fn write_voltages_values(
     }
     let from = payload_start(buffer.len());
     let to = from + payload_room(buffer.len());
-    let written = series::voltages::write_values(
-        &mut buffer[from..to],
-        voltage_source_id,
-        voltage_values,
-    );
+    let written = Voltages::write_values(&mut buffer[from..to], voltage_source_id, voltage_values);
     sealed(buffer, dest, Voltages::PACKET_TYPE, written)
 }

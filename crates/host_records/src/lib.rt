@@ -15,6 +15,9 @@ use records::battery::Battery;
 use records::link_statistics::LinkStatistics;
 use refusals::Refusal;
 use series::Series;
+use series::rpm::Rpm;
+use series::temp::Temp;
+use series::voltages::Voltages;
 ghost use mathlib.Core.Path.{_≡_};
 ghost use lib.ListN.{length, take};
 ghost use Rattle.positions.specs.Gps.{gpsValues};
@@ -202,17 +205,17 @@ fn answer_series(read: Series) -> u64
 pub fn give_rpm(payload: &[u8], out: &mut [i32]) -> u64
     ensures { λ r. ⌜ (r, now (out .exit)) ≡ givesSeries (seriesRead rpmKind (now (payload .entry)) (now (out .entry))) ⌝ }
 {
-    answer_series(series::rpm::read_values(payload, out))
+    answer_series(Rpm::read_values(payload, out))
 }
 
 pub fn give_temp(payload: &[u8], out: &mut [i16]) -> u64
     ensures { λ r. ⌜ (r, now (out .exit)) ≡ givesSeries (seriesRead tempKind (now (payload .entry)) (now (out .entry))) ⌝ }
 {
-    answer_series(series::temp::read_values(payload, out))
+    answer_series(Temp::read_values(payload, out))
 }
 
 pub fn give_voltages(payload: &[u8], out: &mut [u16]) -> u64
     ensures { λ r. ⌜ (r, now (out .exit)) ≡ givesSeries (seriesRead voltagesKind (now (payload .entry)) (now (out .entry))) ⌝ }
 {
-    answer_series(series::voltages::read_values(payload, out))
+    answer_series(Voltages::read_values(payload, out))
 }
