@@ -3,15 +3,15 @@
 -- Assumes nothing.
 use mathlib.Core.Path.{_≡_, refl, sym, ap, subst, _∙_}
 use mathlib.Core.Bool.{true, false}
-use mathlib.Core.List.{List, _++_, append-assoc}
+use mathlib.Core.List.{List}
 use mathlib.Core.Logic.{⊎-elim}
 use Prim.Native.Nat.{ℕ, _+_, _-_, _≤_, _<_}
 use native.Mathlib.Omega.{arith}
 use borrow.Author.Tests.{le-leb, lt-leb}
-use lib.ListN.{length, take, drop, length-drop, take-append-drop}
-use lib.Seq.{length-take-le, drop-append-le, drop-drop}
+use lib.ListN.{length, drop, length-drop}
+use lib.Seq.{length-take-le}
 use Rattle.base.specs.Parts.{pasted}
-use Rattle.base.proofs.Parts.{pasted-front, length-pasted}
+use Rattle.base.proofs.Parts.{length-pasted, cutOut, around, around-kept, put-there}
 use Rattle.base.proofs.Tests.{below}
 use Rattle.packets.specs.Listed.{listed}
 use Rattle.reading.specs.Reading.{limit}
@@ -42,29 +42,6 @@ within len =
     (λ (enough : 4 ≤ len). omega (arith, start-long len enough))
     (below len 4)
 
--- the places lent, and the buffer with these bytes in them
-abbrev places : List ℕ → ℕ → ℕ → List ℕ
-places b from to = take (to - from) (drop from b)
-
-abbrev around : List ℕ → ℕ → ℕ → List ℕ → List ℕ
-around b from to ys = take from b ++ (ys ++ drop (to - from) (drop from b))
-
-module _ (b : List ℕ) (from to : ℕ) where
-  kept : around b from to (places b from to) ≡ b
-  kept = ap (λ (l : List ℕ). take from b ++ l) (take-append-drop (to - from) (drop from b)) ∙ take-append-drop from b
-
-  put-there : (pay : List ℕ) → length pay ≤ length (places b from to) → around b from to (pasted (places b from to) 0 pay) ≡ pasted b from pay
-  unfolding pasted
-  put-there pay room =
-      let t : List ℕ = drop from b in
-      let k : ℕ = to - from in
-      ap (λ (l : List ℕ). take from b ++ (l ++ drop k t)) (pasted-front (take k t) pay)
-      ∙ ap (λ (l : List ℕ). take from b ++ l)
-      (append-assoc pay (drop (length pay) (take k t)) (drop k t)
-      ∙ ap (λ (l : List ℕ). pay ++ l)
-      (sym (drop-append-le (length pay) (take k t) (drop k t) room) ∙ ap (drop (length pay)) (take-append-drop k t) ∙ drop-drop (length pay) from b))
-      ∙ sym (append-assoc (take from b) pay (drop (from + length pay) b))
-
 -- ---- the law
 
 -- what the record's own writer answered and left may be framed, and that is the frame to write
@@ -78,7 +55,7 @@ module _ (dest kind : ℕ) (b : List ℕ) (from to : ℕ) (starts : from ≡ pay
   abbrev Fr : Image → Written → List ℕ → Type 0
   Fr image w ys = Framed dest kind b from to image w ys
 
-  places-length : length (places b from to) ≡ length b - 4
+  places-length : length (cutOut b from to) ≡ length b - 4
   places-length =
       let inside = within (length b) in
       let fits : to - from ≤ length (drop from b) = rw length-drop (omega arith) in
@@ -88,20 +65,20 @@ module _ (dest kind : ℕ) (b : List ℕ) (from to : ℕ) (starts : from ≡ pay
   again {image} e f = subst (λ (x : Written × List ℕ). Fr image (x .0) (x .1)) (sym e) f
 
   -- a refusal is passed on
-  passed : (image : Image) (r : Refusal) → (writtenRow (Refused r), b) ≡ writeOf (framedBody dest kind image) b → Fr image (Refused r) (places b from to)
+  passed : (image : Image) (r : Refusal) → (writtenRow (Refused r), b) ≡ writeOf (framedBody dest kind image) b → Fr image (Refused r) (cutOut b from to)
   unfolding sealedOf
   passed image r h = record {
     few = omega arith;
     enough = omega arith;
     is = λ answer after q.
-        ap (λ (x : Written × List ℕ). (writtenRow (x .0), x .1)) q ∙ ap (λ (l : List ℕ). (writtenRow (Refused r), l)) (kept b from to) ∙ h;
+        ap (λ (x : Written × List ℕ). (writtenRow (x .0), x .1)) q ∙ ap (λ (l : List ℕ). (writtenRow (Refused r), l)) (around-kept b from to) ∙ h;
   }
 
   wrote : (pay : List ℕ) → length pay ≤ 60 → length pay + 4 ≤ length b
-      → Fr (bytes pay) (Wrote (length pay)) (pasted (places b from to) 0 pay)
+      → Fr (bytes pay) (Wrote (length pay)) (pasted (cutOut b from to) 0 pay)
   unfolding sealedOf
   wrote pay small room =
-      let there : around b from to (pasted (places b from to) 0 pay) ≡ pasted b 3 pay =
+      let there : around b from to (pasted (cutOut b from to) 0 pay) ≡ pasted b 3 pay =
       put-there b from to pay (omega (arith, places-length)) ∙ ap (λ (k : ℕ). pasted b k pay) (starts ∙ start-long (length b) (omega arith)) in
       let long : length (pasted b 3 pay) ≡ length b = length-pasted b 3 pay (omega arith) in
       record {
@@ -115,16 +92,16 @@ module _ (dest kind : ℕ) (b : List ℕ) (from to : ℕ) (starts : from ≡ pay
   unfolding framedBody
   as-refused r = refuses r b
 
-  pub lent : (image : Image) {w : Written} {ys : List ℕ} → Small image → (writtenRow w, ys) ≡ writeOf image (places b from to) → Fr image w ys
+  pub lent : (image : Image) {w : Written} {ys : List ℕ} → Small image → (writtenRow w, ys) ≡ writeOf image (cutOut b from to) → Fr image w ys
   lent (bytes pay) small e =
       ⊎-elim
       (λ (less : length b < length pay + 4).
-      again (one-write e (overflows pay (places b from to) (length pay) refl (omega (arith, places-length, small .0))))
+      again (one-write e (overflows pay (cutOut b from to) (length pay) refl (omega (arith, places-length, small .0))))
       (passed (bytes pay) BufferOverflow (short pay (length pay) dest kind refl b less)))
       (λ (room : length pay + 4 ≤ length b).
-      again (one-write e (writes pay (places b from to) (length pay) refl (omega (arith, places-length)))) (wrote pay (small .1) room))
+      again (one-write e (writes pay (cutOut b from to) (length pay) refl (omega (arith, places-length)))) (wrote pay (small .1) room))
       (below (length b) (length pay + 4))
-  lent (refused r) small e = again (one-write e (refuses r (places b from to))) (passed (refused r) r (as-refused r))
+  lent (refused r) small e = again (one-write e (refuses r (cutOut b from to))) (passed (refused r) r (as-refused r))
 
 -- ---- the address is tested first
 
