@@ -49,21 +49,17 @@ channels-small c =
     (λ (good : channelsCount ≤ firstAbove (c .0)). small-as (image-bytes c good) (omega (arith, channels-length c (channelBytes (c .0)) (image-bytes c good))))
     (below (firstAbove (c .0)) channelsCount)
 
+small-if : (image : Image) → ((payload : List ℕ) → image ≡ bytes payload → (0 < length payload) × (length payload ≤ mostPayload)) → Small image
+small-if (bytes payload) sized = sized payload refl
+small-if (refused r) sized = tt
+
 -- a series of so few values, behind their id
 module _ {A : Type 0} (k : Kind A) {Fits : A → Type 0} (sound : Sound k Fits) (fits : 1 + k .most * k .width ≤ mostPayload) where
   pub series-small : (h : Held A) → Small (heldImage k h)
-  series-small h = by-image (heldImage k h) refl
-    where
-      by-image : (image : Image) → heldImage k h ≡ image → Small image
-      by-image (bytes payload) e = omega (arith, image-size k sound (h .id) (h .places) (h .count) payload e)
-      by-image (refused r) e = tt
+  series-small h = small-if (heldImage k h) (λ payload e. omega (arith, image-size k sound (h .id) (h .places) (h .count) payload e))
 
   pub new-series-small : (id : ℕ) (vs : List A) → Small (newImage k id vs)
-  new-series-small id vs = by-image (newImage k id vs) refl
-    where
-      by-image : (image : Image) → newImage k id vs ≡ image → Small image
-      by-image (bytes payload) e = omega (arith, new-size k sound id vs payload e)
-      by-image (refused r) e = tt
+  new-series-small id vs = small-if (newImage k id vs) (λ payload e. omega (arith, new-size k sound id vs payload e))
 
 pub rpm-small : (r : Rpm) → Small (rpmImage r)
 rpm-small r = series-small rpmKind rpm-sound (lit≤ tt) (rpmHeld r)
