@@ -1,8 +1,6 @@
 // The stream call over the host's state: what it answers, how much it takes, and the frame's bytes or what is held afterwards.
-use crate::case::Case;
 use crate::case::Expected;
 use crate::case::bytes_from;
-use crate::case::bytes_of;
 use base::byte_at;
 use base::wide;
 use host_state::END;
@@ -84,11 +82,7 @@ fn is_shown(state: &[u8], input: &[u8], reply: Reply, expected: &[u8]) -> bool {
     }
 }
 
-pub fn calls(state: &mut [u8], page: &[u8], c: Case) -> bool {
-    let a = c.a;
-    let shown = c.c;
-    let e = c.expected;
-    let input = bytes_of(page, a);
+pub fn calls(state: &mut [u8], e: Expected, input: &[u8], shown: &[u8]) -> bool {
     let replied = host_state::step(state, input);
     let reply = replied.reply;
     if replied.taken != wide(e.taken) {
@@ -97,5 +91,5 @@ pub fn calls(state: &mut [u8], page: &[u8], c: Case) -> bool {
     if !is_said(e, reply) {
         return false;
     }
-    is_shown(state, input, reply, bytes_of(page, shown))
+    is_shown(state, input, reply, shown)
 }

@@ -1,31 +1,49 @@
 // Replays recorded answers of the Rust original: standard input is a sample that compare/record wrote, and each answer in it is compared with this
 // port's. Writes how many agree and how many differ. What stands in the sample is said in compare/driver/src/record.rs.
 mod case;
+mod fields;
 mod framing;
 mod queries;
 mod read;
+mod series_cases;
 mod written;
 
 use base::byte_at;
+use case::Expected;
+use case::bytes_of;
 use case::case_at;
 use libc::STDIN_FILENO;
 use libc::STDOUT_FILENO;
 ghost use Prim.Native.Nat.{_<_};
 
-// Whether the case agrees.
+// Whether the case agrees, by what is expected and its three parts.
+fn is_answer(kind: u8, e: Expected, a: &[u8], b: &[u8], c: &[u8], state: &mut [u8]) -> bool {
+    match kind {
+        1 => framing::resets(state),
+        2 => framing::calls(state, e, a, c),
+        3..=7 => queries::answers(kind, a, c),
+        10..=18 => read::reads(kind, e, a, c),
+        20..=28 => written::writes(kind, e, a, b, c),
+        _ => false,
+    }
+}
+
 fn agrees(page: &[u8], at: usize, state: &mut [u8]) -> bool
     requires { ⌜ at < 4096 ⌝ }
 {
-    let c = case_at(page, at);
-    let kind = c.kind;
-    match kind {
-        1 => framing::resets(state),
-        2 => framing::calls(state, page, c),
-        3..=7 => queries::answers(page, c),
-        10..=16 => read::reads(page, c),
-        20..=26 => written::writes(page, c),
-        _ => false,
-    }
+    let case = case_at(page, at);
+    let e = case.expected;
+    let a = case.a;
+    let b = case.b;
+    let c = case.c;
+    is_answer(
+        case.kind,
+        e,
+        bytes_of(page, a),
+        bytes_of(page, b),
+        bytes_of(page, c),
+        state,
+    )
 }
 
 // Which two counts a kind of case goes to: framing, queries, records read, records written.

@@ -1,6 +1,4 @@
 // Addresses, headers of packet types, check bytes, altitudes.
-use crate::case::Case;
-use crate::case::bytes_of;
 use altitude::Decimetres;
 use base::byte_at;
 use numbers::get_i32;
@@ -39,12 +37,7 @@ fn unpacks(packed: u16, expected: &[u8]) -> bool {
     d.0 == get_i32(expected, 0)
 }
 
-pub fn answers(page: &[u8], c: Case) -> bool {
-    let a = c.a;
-    let part = c.c;
-    let bytes = bytes_of(page, a);
-    let expected = bytes_of(page, part);
-    let kind = c.kind;
+pub fn answers(kind: u8, bytes: &[u8], expected: &[u8]) -> bool {
     if kind == 6 {
         return packs(get_i32(bytes, 0), expected);
     }

@@ -1,7 +1,10 @@
-// Records read from payloads: the refusal, or every field. A field of a case has 4 bytes, highest first, and a narrow one is the last of them.
-use crate::case::Case;
-use crate::case::bytes_of;
+// Records read from payloads: the refusal, or every field (fields.rt).
+use crate::case::Expected;
 use crate::case::has_number;
+use crate::fields::same_u16;
+use crate::series_cases::reads_rpm;
+use crate::series_cases::reads_temp;
+use crate::series_cases::reads_voltages;
 use base::byte_at;
 use channels::RcChannelsPacked;
 use layout::ReadAnswer;
@@ -20,7 +23,6 @@ use records::battery::Battery;
 use records::battery::BatteryRead;
 use records::link_statistics::LinkStatistics;
 use records::link_statistics::LinkStatisticsRead;
-use rpm::Rpm;
 
 fn is_link_statistics(r: LinkStatistics, f: &[u8]) -> bool {
     r.uplink_rssi_1 == byte_at(f, 3)
@@ -106,19 +108,6 @@ fn baro_altitude(payload: &[u8], number: u8, f: &[u8]) -> bool {
     }
 }
 
-fn are_channels(channels: &[u16], f: &[u8]) -> bool {
-    let mut i = 0;
-    while i < 16 {
-        if i < channels.len() {
-            if channels[i] != get_u16(f, 4 * i + 2) {
-                return false;
-            }
-        }
-        i += 1;
-    }
-    true
-}
-
 fn channels(payload: &[u8], number: u8, f: &[u8]) -> bool {
     let read = RcChannelsPacked::from_bytes(payload);
     let answer = read.answer;
@@ -126,47 +115,11 @@ fn channels(payload: &[u8], number: u8, f: &[u8]) -> bool {
     let sixteen = packed.0;
     match answer {
         ReadAnswer::Refused(refusal) => has_number(refusal, number),
-        ReadAnswer::Record => number == 0 && are_channels(&sixteen, f),
+        ReadAnswer::Record => number == 0 && same_u16(&sixteen, f),
     }
 }
 
-// All nineteen places: those past the count are 0, which is what a lacking field reads as.
-fn are_values(values: &[i32], f: &[u8]) -> bool {
-    let mut i = 0;
-    while i < 19 {
-        if i < values.len() {
-            if values[i] != get_i32(f, 4 * i) {
-                return false;
-            }
-        }
-        i += 1;
-    }
-    true
-}
-
-fn rpm(payload: &[u8], number: u8, id: u8, f: &[u8]) -> bool {
-    let read = Rpm::from_bytes(payload);
-    let answer = read.answer;
-    let record = read.rpm;
-    let values = record.rpm_values;
-    match answer {
-        ReadAnswer::Refused(refusal) => has_number(refusal, number),
-        ReadAnswer::Record => {
-            number == 0
-                && record.rpm_source_id == id
-                && record.count == f.len() / 4
-                && are_values(&values, f)
-        }
-    }
-}
-
-pub fn reads(page: &[u8], c: Case) -> bool {
-    let a = c.a;
-    let fields = c.c;
-    let e = c.expected;
-    let payload = bytes_of(page, a);
-    let f = bytes_of(page, fields);
-    let kind = c.kind;
+pub fn reads(kind: u8, e: Expected, payload: &[u8], f: &[u8]) -> bool {
     match kind {
         10 => link_statistics(payload, e.number, f),
         11 => channels(payload, e.number, f),
@@ -174,6 +127,9 @@ pub fn reads(page: &[u8], c: Case) -> bool {
         13 => gps_extended(payload, e.number, f),
         14 => battery(payload, e.number, f),
         15 => baro_altitude(payload, e.number, f),
-        _ => rpm(payload, e.number, e.first, f),
+        16 => reads_rpm(payload, e, f),
+        17 => reads_temp(payload, e, f),
+        18 => reads_voltages(payload, e, f),
+        _ => false,
     }
 }

@@ -1,13 +1,11 @@
-// Records written as frames: the refusal or the count, and the whole buffer afterwards. A field of a case has 4 bytes, highest first, and a narrow one is
-// the last of them; what is not there reads as 0.
-use crate::case::Case;
+// Records written as frames from fields (fields.rt): the refusal or the count, and the whole buffer afterwards.
 use crate::case::Expected;
-use crate::case::bytes_of;
 use crate::case::has_number;
+use crate::fields::fill_u16;
+use crate::series_cases;
 use base::byte_at;
 use base::wide;
 use channels::RcChannelsPacked;
-use layout::ReadAnswer;
 use numbers::get_i8;
 use numbers::get_i16;
 use numbers::get_i32;
@@ -18,8 +16,6 @@ use positions::gps_extended::GpsExtended;
 use records::baro_altitude::BaroAltitude;
 use records::battery::Battery;
 use records::link_statistics::LinkStatistics;
-use refusals::Refusal;
-use rpm::Rpm;
 use writing::Written;
 
 fn link_statistics(buffer: &mut [u8], dest: u8, f: &[u8]) -> Written {
@@ -39,24 +35,9 @@ fn link_statistics(buffer: &mut [u8], dest: u8, f: &[u8]) -> Written {
 }
 
 fn channels(buffer: &mut [u8], dest: u8, f: &[u8]) -> Written {
-    let r = RcChannelsPacked([
-        get_u16(f, 2),
-        get_u16(f, 6),
-        get_u16(f, 10),
-        get_u16(f, 14),
-        get_u16(f, 18),
-        get_u16(f, 22),
-        get_u16(f, 26),
-        get_u16(f, 30),
-        get_u16(f, 34),
-        get_u16(f, 38),
-        get_u16(f, 42),
-        get_u16(f, 46),
-        get_u16(f, 50),
-        get_u16(f, 54),
-        get_u16(f, 58),
-        get_u16(f, 62),
-    ]);
+    let mut sixteen = [0u16; 16];
+    fill_u16(&mut sixteen, f);
+    let r = RcChannelsPacked(sixteen);
     frames::write_rc_channels_packed(buffer, dest, r)
 }
 
@@ -109,52 +90,6 @@ fn baro_altitude(buffer: &mut [u8], dest: u8, f: &[u8]) -> Written {
     frames::write_baro_altitude(buffer, dest, r)
 }
 
-fn first(values: &[i32], count: usize) -> &[i32] {
-    if count < values.len() {
-        return &values[0..count];
-    }
-    values
-}
-
-// A record that can't be made is not written; its destination is looked at first all the same.
-fn rpm(buffer: &mut [u8], dest: u8, f: &[u8]) -> Written {
-    let values = [
-        get_i32(f, 4),
-        get_i32(f, 8),
-        get_i32(f, 12),
-        get_i32(f, 16),
-        get_i32(f, 20),
-        get_i32(f, 24),
-        get_i32(f, 28),
-        get_i32(f, 32),
-        get_i32(f, 36),
-        get_i32(f, 40),
-        get_i32(f, 44),
-        get_i32(f, 48),
-        get_i32(f, 52),
-        get_i32(f, 56),
-        get_i32(f, 60),
-        get_i32(f, 64),
-        get_i32(f, 68),
-        get_i32(f, 72),
-        get_i32(f, 76),
-    ];
-    if !packets::is_address(dest) {
-        return Written::Refused(Refusal::BadAddress);
-    }
-    let fields = f.len() / 4;
-    if fields < 1 {
-        return Written::Refused(Refusal::InvalidPayloadLength);
-    }
-    let made = Rpm::new(byte_at(f, 3), first(&values, fields - 1));
-    let answer = made.answer;
-    let r = made.rpm;
-    match answer {
-        ReadAnswer::Refused(refusal) => Written::Refused(refusal),
-        ReadAnswer::Record => frames::write_rpm(buffer, dest, r),
-    }
-}
-
 fn write(kind: u8, buffer: &mut [u8], dest: u8, f: &[u8]) -> Written {
     match kind {
         20 => link_statistics(buffer, dest, f),
@@ -163,7 +98,7 @@ fn write(kind: u8, buffer: &mut [u8], dest: u8, f: &[u8]) -> Written {
         23 => gps_extended(buffer, dest, f),
         24 => battery(buffer, dest, f),
         25 => baro_altitude(buffer, dest, f),
-        _ => rpm(buffer, dest, f),
+        _ => series_cases::writes(kind, buffer, dest, f),
     }
 }
 
@@ -175,29 +110,19 @@ fn is_expected(e: Expected, written: Written) -> bool {
 }
 
 // The buffer is as long as the expected one.
-fn writes_into(buffer: &mut [u8], page: &[u8], c: Case) -> bool {
-    let a = c.a;
-    let b = c.b;
-    let whole = c.c;
-    let e = c.expected;
-    let dest = byte_at(bytes_of(page, b), 0);
-    if !is_expected(e, write(c.kind, buffer, dest, bytes_of(page, a))) {
+fn writes_into(buffer: &mut [u8], kind: u8, e: Expected, f: &[u8], dest: u8, whole: &[u8]) -> bool {
+    if !is_expected(e, write(kind, buffer, dest, f)) {
         return false;
     }
-    check::same(buffer, bytes_of(page, whole))
+    check::same(buffer, whole)
 }
 
-fn writes_in(places: &mut [u8], page: &[u8], c: Case) -> bool {
-    let whole = c.c;
-    let n = whole.len;
+// `to` is the destination, and the byte that fills the buffer.
+pub fn writes(kind: u8, e: Expected, f: &[u8], to: &[u8], whole: &[u8]) -> bool {
+    let mut places = [byte_at(to, 1); 80];
+    let n = whole.len();
     if places.len() < n {
         return false;
     }
-    writes_into(&mut places[0..n], page, c)
-}
-
-pub fn writes(page: &[u8], c: Case) -> bool {
-    let b = c.b;
-    let mut places = [byte_at(bytes_of(page, b), 1); 80];
-    writes_in(&mut places, page, c)
+    writes_into(&mut places[0..n], kind, e, f, byte_at(to, 0), whole)
 }

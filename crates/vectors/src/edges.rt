@@ -1,5 +1,5 @@
 // Both sides of each edge of the rules, and that 0 reads as -10000 dm. What the library gives is written line by line.
-use crate::show::shown;
+use crate::show::payload;
 use crate::show::spelled;
 use altitude::Decimetres;
 use channels::RcChannelsPacked;
@@ -7,9 +7,7 @@ use libc::STDOUT_FILENO;
 use lines::line::list_held;
 use listing::list_in;
 use records::battery::Battery;
-use rpm::Rpm;
 use stream::LIMIT;
-use writing::Written;
 
 // The listing of a whole stream.
 fn gives(input: &[u8]) {
@@ -31,13 +29,6 @@ fn gives(input: &[u8]) {
                 io::write_all(STDOUT_FILENO, &out[0..m]);
             }
         }
-    }
-}
-
-fn payload(written: Written, buffer: &[u8]) {
-    match written {
-        Written::Wrote(n) => shown(buffer, n),
-        Written::Refused(_) => shown(buffer, 0),
     }
 }
 
@@ -83,15 +74,6 @@ fn battery(id: u8) {
     payload(written, &buffer);
 }
 
-fn rpm(value: i32) {
-    let mut buffer = [0u8; 16];
-    let values = [value];
-    let made = Rpm::new(1, &values);
-    let record = made.rpm;
-    let written = record.to_bytes(&mut buffer);
-    payload(written, &buffer);
-}
-
 pub fn cases() {
     gives(&[0xC8, 0x02, 0x00, 0x00]);
     gives(&[0xC8, 0x02, 0x00, 0x01]);
@@ -110,6 +92,4 @@ pub fn cases() {
     unpacked(0, -10000);
     battery(0);
     battery(5);
-    rpm(-1);
-    rpm(-8388608);
 }

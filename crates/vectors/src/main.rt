@@ -2,6 +2,7 @@
 mod check_byte;
 mod edges;
 mod lists;
+mod series_edges;
 mod show;
 
 use show::heading;
@@ -13,4 +14,6 @@ fn main() {
     lists::every_byte();
     heading(b"Both sides of each edge");
     edges::cases();
+    heading(b"Series at both sides of each edge");
+    series_edges::cases();
 }

@@ -1,5 +1,6 @@
 // Bytes on the standard output.
 use libc::STDOUT_FILENO;
+use writing::Written;
 
 pub fn heading(text: &[u8]) {
     io::write_all(STDOUT_FILENO, b"-- ");
@@ -21,9 +22,17 @@ pub fn spelled(bytes: &[u8]) {
 }
 
 // The first n of the bytes, if there are that many.
-pub fn shown(bytes: &[u8], n: usize) {
+fn shown(bytes: &[u8], n: usize) {
     if n <= bytes.len() {
         spelled(&bytes[0..n]);
     }
     io::write_all(STDOUT_FILENO, b"\n");
+}
+
+// What was written; nothing where it was refused.
+pub fn payload(written: Written, buffer: &[u8]) {
+    match written {
+        Written::Wrote(n) => shown(buffer, n),
+        Written::Refused(_) => shown(buffer, 0),
+    }
 }

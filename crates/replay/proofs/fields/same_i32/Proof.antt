@@ -1,14 +1,14 @@
--- `replay::read::are_values` is safe and ends. Assumes nothing.
+-- `replay::fields::same_i32` is safe and ends. Assumes nothing.
 use Prim.Native.Nat.{_≤_, _-_}
 use borrow.Author.Needs.{needs}
-use Rattle.replay.proofs.read.are_values.Statement.{statement}
-use Rattle.replay.proofs.read.are_values.Tie as tie
+use Rattle.replay.proofs.fields.same_i32.Statement.{statement}
+use Rattle.replay.proofs.fields.same_i32.Tie as tie
 
 abbrev Inv-loop : tie.InvT-loop
-Inv-loop values f i₀ i = i ≤ 19
+Inv-loop places f i₀ i = i ≤ 30
 
 abbrev μ-loop : tie.MeasureT-loop
-μ-loop values f i₀ i = 19 - i
+μ-loop places f i₀ i = 30 - i
 
 loop-holds : tie.Need-loop-holds Inv-loop μ-loop
 loop-holds c = search needs
@@ -40,8 +40,11 @@ loop-again c = search needs
 returns-2 : tie.Need-returns-2 Inv-loop μ-loop
 returns-2 c = search needs
 
-pub are-values-spec : {M : Type 1} → statement M
-are-values-spec =
+returns-3 : tie.Need-returns-3 Inv-loop μ-loop
+returns-3 c = search needs
+
+pub same-i32-spec : {M : Type 1} → statement M
+same-i32-spec =
     tie.close
     (tie.spec
     Inv-loop
@@ -55,4 +58,5 @@ are-values-spec =
     add-i
     loop-less
     loop-again
-    returns-2)
+    returns-2
+    returns-3)

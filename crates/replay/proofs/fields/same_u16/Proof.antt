@@ -1,14 +1,14 @@
--- `replay::read::are_channels` is safe and ends. Assumes nothing.
+-- `replay::fields::same_u16` is safe and ends. Assumes nothing.
 use Prim.Native.Nat.{_≤_, _-_}
 use borrow.Author.Needs.{needs}
-use Rattle.replay.proofs.read.are_channels.Statement.{statement}
-use Rattle.replay.proofs.read.are_channels.Tie as tie
+use Rattle.replay.proofs.fields.same_u16.Statement.{statement}
+use Rattle.replay.proofs.fields.same_u16.Tie as tie
 
 abbrev Inv-loop : tie.InvT-loop
-Inv-loop channels f i₀ i = i ≤ 16
+Inv-loop places f i₀ i = i ≤ 30
 
 abbrev μ-loop : tie.MeasureT-loop
-μ-loop channels f i₀ i = 16 - i
+μ-loop places f i₀ i = 30 - i
 
 loop-holds : tie.Need-loop-holds Inv-loop μ-loop
 loop-holds c = search needs
@@ -43,8 +43,11 @@ loop-again c = search needs
 returns-2 : tie.Need-returns-2 Inv-loop μ-loop
 returns-2 c = search needs
 
-pub are-channels-spec : {M : Type 1} → statement M
-are-channels-spec =
+returns-3 : tie.Need-returns-3 Inv-loop μ-loop
+returns-3 c = search needs
+
+pub same-u16-spec : {M : Type 1} → statement M
+same-u16-spec =
     tie.close
     (tie.spec
     Inv-loop
@@ -59,4 +62,5 @@ are-channels-spec =
     add-i
     loop-less
     loop-again
-    returns-2)
+    returns-2
+    returns-3)
