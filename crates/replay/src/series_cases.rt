@@ -1,4 +1,4 @@
-// The series: RPM, temperatures, cell voltages. Read, the id and the count stand in the answer, and each field is a value; written, the id is the first
+// The series: RPM, temperatures, voltages. Read, the id and the count stand in the answer, and each field is a value; written, the id is the first
 // field.
 use crate::case::Expected;
 use crate::case::bytes_from;
