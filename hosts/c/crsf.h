@@ -37,7 +37,7 @@
  *     crsf_write_rc_channels_packed     448        crsf_write_gps                    384
  *     crsf_write_gps_extended           432        crsf_write_battery                368
  *     crsf_write_baro_altitude          352        crsf_write_rpm                    368
- *     crsf_write_temp                   368        crsf_write_voltages               368
+ *     crsf_write_temp                   384        crsf_write_voltages               384
  *     crsf_read_link_statistics          24        crsf_read_rc_channels_packed       56
  *     crsf_read_gps                      24        crsf_read_gps_extended             24
  *     crsf_read_battery                  24        crsf_read_baro_altitude            24
