@@ -346,13 +346,13 @@ static void series_reads(const series *r, const uint8_t *payload, size_t n, size
 }
 
 /* What a writer is to answer and to leave in its buffer, from the layout alone. The payload that it wrote is read as the values. */
-static void series_writes(const series *r, uint8_t dest, uint8_t id, const uint16_t *values, size_t n, size_t lent)
+static void series_writes(const series *r, uint8_t dest, bool listed, uint8_t id, const uint16_t *values, size_t n, size_t lent)
 {
     uint8_t want[SERIES_BUFFER], got[SERIES_BUFFER];
     memset(want, 0xAA, sizeof want);
     memset(got, 0xAA, sizeof got);
     const crsf_answer a = r->write(got, lent, dest, id, values, n);
-    if (!crsf_is_address(dest))
+    if (!listed)
         CHECK(refusal(a, CRSF_BAD_ADDRESS));
     else if (n == 0 || n > r->most)
         CHECK(refusal(a, CRSF_INVALID_PAYLOAD_LENGTH));
@@ -384,7 +384,10 @@ static void each_series(void)
     };
     const size_t longer[] = {65, 66, 127, 128, 129, 255, 256, 257, 258, 259, 511, 512, 513, 515, SERIES_PAYLOAD};
     const uint16_t extremes[] = {0, 1, 0x00FF, 0x0100, 0x7FFE, 0x7FFF, 0x8000, 0x8001, 0xFEFF, 0xFFFE, 0xFFFF};
-    const uint8_t dests[] = {0xC8, 0xC9, 0x00, 0xFF};
+    const struct {
+        uint8_t dest;
+        bool listed;
+    } to[] = {{0xC8, true}, {0xC9, false}, {0x00, true}, {0xFF, false}};
     enum { EXTREMES = sizeof extremes / sizeof *extremes };
     uint8_t payload[SERIES_PAYLOAD];
     uint16_t values[SERIES_PLACES];
@@ -402,8 +405,8 @@ static void each_series(void)
             }
             for (size_t n = 0; n <= r->most + 6; n++)
                 for (size_t lent = 0; lent <= 70; lent++)
-                    for (size_t i = 0; i < sizeof dests; i++)
-                        series_writes(r, dests[i], (uint8_t)(shift * 23 + n), values, n, lent);
+                    for (size_t i = 0; i < sizeof to / sizeof *to; i++)
+                        series_writes(r, to[i].dest, to[i].listed, (uint8_t)(shift * 23 + n), values, n, lent);
         }
         CHECK(refusal(r->read(NULL, 0, NULL, 0), CRSF_INVALID_PAYLOAD_LENGTH));
         CHECK(refusal(r->read(payload, 3, NULL, 0), CRSF_BUFFER_OVERFLOW));

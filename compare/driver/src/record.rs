@@ -177,6 +177,15 @@ pub fn sample(seed: u64) -> (Vec<u8>, usize) {
             write(&mut pages, i, record, &fields, dest, len, fill);
         }
     }
+    // Every count of values, up to one too many.
+    for (i, record) in RECORDS.iter().enumerate().filter(|(_, record)| record.is_series()) {
+        for count in 0..=record.ranges.len() {
+            let fields: Vec<i64> = (0..=count).map(|i| record.random_field(&mut r, i.min(record.ranges.len() - 1))).collect();
+            if !record.is_left_out(&fields) {
+                write(&mut pages, i, record, &fields, 0xC8, 70, 0xA5);
+            }
+        }
+    }
     pages.end_page();
     (pages.bytes, pages.cases)
 }

@@ -60,7 +60,7 @@ fn values<N>(f: &[i64], narrow: fn(i64) -> N) -> Vec<N> {
 }
 
 /// The ranges of a series: of the id, then of `FIELDS - 1` values.
-const fn run_ranges<const FIELDS: usize>(values: (i64, i64)) -> [(i64, i64); FIELDS] {
+const fn series_ranges<const FIELDS: usize>(values: (i64, i64)) -> [(i64, i64); FIELDS] {
     let mut ranges = [values; FIELDS];
     ranges[0] = U8;
     ranges
@@ -147,7 +147,7 @@ pub const RECORDS: [Record; 9] = [
     },
     Record {
         name: "RPM",
-        ranges: &run_ranges::<20>(I32),
+        ranges: &series_ranges::<20>(I32),
         write_rust: |f, dest, b| write_packet_to_buffer(b, dest, &Rpm::new(f[0] as u8, &values(f, |x| x as i32))?),
         write_ours: |f, dest, b| ours::write_rpm(b, dest, f[0] as u8, &values(f, |x| x as i32)),
         read_rust: |p, out| {
@@ -160,7 +160,7 @@ pub const RECORDS: [Record; 9] = [
     },
     Record {
         name: "temperatures",
-        ranges: &run_ranges::<21>(I16),
+        ranges: &series_ranges::<21>(I16),
         write_rust: |f, dest, b| write_packet_to_buffer(b, dest, &Temp::new(f[0] as u8, &values(f, |x| x as i16))?),
         write_ours: |f, dest, b| ours::write_temp(b, dest, f[0] as u8, &values(f, |x| x as i16)),
         read_rust: |p, out| {
@@ -173,7 +173,7 @@ pub const RECORDS: [Record; 9] = [
     },
     Record {
         name: "voltages",
-        ranges: &run_ranges::<30>(U16),
+        ranges: &series_ranges::<30>(U16),
         write_rust: |f, dest, b| write_packet_to_buffer(b, dest, &Voltages::new(f[0] as u8, &values(f, |x| x as u16))?),
         write_ours: |f, dest, b| ours::write_voltages(b, dest, f[0] as u8, &values(f, |x| x as u16)),
         read_rust: |p, out| {
@@ -305,7 +305,7 @@ impl Record {
         Some(format!("read {} {}: the Rust {expected:?} and {scratch:?}, ours {got:?} and {:?}", self.name, hex(payload), out.places))
     }
 
-    fn random_field(&self, r: &mut Rng, i: usize) -> i64 {
+    pub fn random_field(&self, r: &mut Rng, i: usize) -> i64 {
         let (lo, hi) = self.ranges[i];
         match r.below(4) {
             // an end of the type, or next to a power of two, on either side of 0
@@ -487,7 +487,7 @@ pub fn compare(report: &mut Report, seed: u64, random: u64) {
     beyond(report);
 }
 
-/// What the Rust's own types rule out or get wrong, and the rules decide: channels above 2047 and runs without a value (RULES 10), too few places to
+/// What the Rust's own types rule out or get wrong, and the rules decide: channels above 2047 and series without a value (RULES 10), too few places to
 /// read into (RULES 14).
 fn beyond(report: &mut Report) {
     let spills = report.lists("channel 0 set to 2048, the others 0");
@@ -513,14 +513,22 @@ fn beyond(report: &mut Report) {
             }
         }
     });
-    report.family("temperatures, voltages without a value: by RULES 10 alone", |family| {
+    let empty = report.lists("`Temp::new(0, &[])`, and the same of `Voltages`: no value");
+    report.family("temperatures, voltages without a value: the Rust writes them", |family| {
         for record in RECORDS.iter().filter(|record| record.is_left_out(&[0])) {
             for (dest, len) in (0..=255).flat_map(|dest| (0..=70).map(move |len| (dest, len))) {
                 let mut buffer = [0x5A; 70];
                 let got = (record.write_ours)(&[7], dest, &mut buffer[..len]);
                 let number = if ADDRESSES.contains(&dest) { ours::INVALID_PAYLOAD_LENGTH } else { ours::BAD_ADDRESS };
-                let input = || format!("{} without a value to {dest:02X} in {len} bytes", record.name);
+                let input = || format!("{} without a value to {dest:02X} in {len} bytes, by RULES 10", record.name);
                 family.same((Answer::refusal(number), [0x5A; 70]), (got, buffer), input);
+                if let Some(told) = record.write_differs(&[7], dest, len, 0x5A) {
+                    if empty {
+                        family.differs_as_listed();
+                    } else {
+                        family.differs(|| told);
+                    }
+                }
             }
         }
     });
@@ -530,16 +538,19 @@ fn beyond(report: &mut Report) {
                 let payload: Vec<u8> = (0..len).map(|i| (i * 29 + 131) as u8).collect();
                 let mut fields = vec![];
                 let read = (record.read_rust)(&payload, &mut fields);
-                let wanted = fields.len() - usize::from(record.is_series() && read.is_ok());
+                let first = if record.is_series() && read.is_ok() { fields.remove(0) as u8 } else { 0 };
+                let mut want = Out::new(lent);
+                let expected = match read {
+                    Err(refusal) => Answer::refusal(number_of(refusal)),
+                    Ok(()) if lent < fields.len() => Answer::refusal(ours::BUFFER_OVERFLOW),
+                    Ok(()) => {
+                        want.places[..fields.len()].copy_from_slice(&fields);
+                        Answer { number: ours::OK, len: fields.len() as u8, first, ..Answer::default() }
+                    }
+                };
                 let mut out = Out::new(lent);
                 let got = (record.read_ours)(&payload, &mut out);
-                let number = match read {
-                    Err(refusal) => number_of(refusal),
-                    Ok(()) if lent < wanted => ours::BUFFER_OVERFLOW,
-                    Ok(()) => ours::OK,
-                };
-                let untouched = number == ours::OK || out.places == [UNTOUCHED; PLACES];
-                family.same((number, true), (got.number, untouched), || format!("read {} of {len} bytes into {lent} places", record.name));
+                family.same((expected, want.places), (got, out.places), || format!("read {} of {len} bytes into {lent} places", record.name));
             }
         }
     });

@@ -13,10 +13,10 @@ use Rattle.writing.specs.Writing.{Image, bytes, refused}
 use Rattle.channels.specs.Channels.{channelsCount, firstAbove, channelBytes, channelsImage}
 use Rattle.channels.specs.declared.RcChannelsPacked.{RcChannelsPacked}
 use Rattle.channels.proofs.Laws.{image-refused, image-bytes, channels-length}
-use Rattle.series.specs.Series.{Kind, Held, heldImage, newImage}
-use Rattle.series.specs.Rpm.{rpmKind, rpmHeld, rpmImage}
-use Rattle.series.specs.Temp.{tempKind, tempHeld, tempImage}
-use Rattle.series.specs.Voltages.{voltagesKind, voltagesHeld, voltagesImage}
+use Rattle.series.specs.Series.{Kind, Counted, countedImage, newImage}
+use Rattle.series.specs.Rpm.{rpmKind, rpmCounted, rpmImage}
+use Rattle.series.specs.Temp.{tempKind, tempCounted, tempImage}
+use Rattle.series.specs.Voltages.{voltagesKind, voltagesCounted, voltagesImage}
 use Rattle.series.specs.declared.rpm.Rpm.{Rpm}
 use Rattle.series.specs.declared.temp.Temp.{Temp}
 use Rattle.series.specs.declared.voltages.Voltages.{Voltages}
@@ -55,26 +55,26 @@ small-if (refused r) sized = tt
 
 -- a series of so few values, behind their id
 module _ {A : Type 0} (k : Kind A) {Fits : A → Type 0} (sound : Sound k Fits) (fits : 1 + k .most * k .width ≤ mostPayload) where
-  pub series-small : (h : Held A) → Small (heldImage k h)
-  series-small h = small-if (heldImage k h) (λ payload e. omega (arith, image-size k sound (h .id) (h .places) (h .count) payload e))
+  pub series-small : (h : Counted A) → Small (countedImage k h)
+  series-small h = small-if (countedImage k h) (λ payload e. omega (arith, image-size k sound (h .id) (h .places) (h .count) payload e))
 
   pub new-series-small : (id : ℕ) (vs : List A) → Small (newImage k id vs)
   new-series-small id vs = small-if (newImage k id vs) (λ payload e. omega (arith, new-size k sound id vs payload e))
 
 pub rpm-small : (r : Rpm) → Small (rpmImage r)
-rpm-small r = series-small rpmKind rpm-sound (lit≤ tt) (rpmHeld r)
+rpm-small r = series-small rpmKind rpm-sound (lit≤ tt) (rpmCounted r)
 
 pub new-rpm-small : (id : ℕ) (vs : List ℤ) → Small (newImage rpmKind id vs)
 new-rpm-small = new-series-small rpmKind rpm-sound (lit≤ tt)
 
 pub temp-small : (r : Temp) → Small (tempImage r)
-temp-small r = series-small tempKind temp-sound (lit≤ tt) (tempHeld r)
+temp-small r = series-small tempKind temp-sound (lit≤ tt) (tempCounted r)
 
 pub new-temp-small : (id : ℕ) (vs : List ℤ) → Small (newImage tempKind id vs)
 new-temp-small = new-series-small tempKind temp-sound (lit≤ tt)
 
 pub voltages-small : (r : Voltages) → Small (voltagesImage r)
-voltages-small r = series-small voltagesKind voltages-sound (lit≤ tt) (voltagesHeld r)
+voltages-small r = series-small voltagesKind voltages-sound (lit≤ tt) (voltagesCounted r)
 
 pub new-voltages-small : (id : ℕ) (vs : List ℕ) → Small (newImage voltagesKind id vs)
 new-voltages-small = new-series-small voltagesKind voltages-sound (lit≤ tt)

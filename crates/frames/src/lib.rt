@@ -184,7 +184,7 @@ pub fn write_voltages(buffer: &mut [u8], dest: u8, packet: Voltages) -> Written
     sealed(buffer, dest, Voltages::PACKET_TYPE, written)
 }
 
-// The frame of a new record of cell voltages straight from its values, of which there must be 1 to 29.
+// The frame of a new record of voltages straight from its values, of which there must be 1 to 29.
 pub fn write_voltages_values(
     buffer: &mut [u8],
     dest: u8,

@@ -27,10 +27,10 @@ use Rattle.records.specs.Battery.{batteryValues, batteryRead}
 use Rattle.records.specs.declared.battery.Battery.{Battery}
 use Rattle.channels.specs.Channels.{channelsRead}
 use Rattle.channels.specs.declared.RcChannelsPacked.{RcChannelsPacked}
-use Rattle.series.specs.Series.{Kind, Held, seriesRead, heldRead}
+use Rattle.series.specs.Series.{Kind, Counted, seriesRead, countedRead}
 use Rattle.series.specs.declared.Series.{Series}
 use Rattle.series.specs.declared.Series.the-variants as series
-use Rattle.series.proofs.SeriesLaws.{in-values, held-counted, lent-as-held}
+use Rattle.series.proofs.SeriesLaws.{in-values, counted-long, lent-as-counted}
 use Rattle.host_answer.specs.declared.answer.HostAnswer.{HostAnswer}
 use Rattle.host_answer.specs.Answer.{packed, inBytes, answerRefusal}
 use Rattle.host_answer.proofs.Rows.{not-success, row-refusal}
@@ -100,11 +100,11 @@ module _ {A : Type 0} (k : Kind A) (some : 0 < k .leastBytes) (few : k .most < 2
 
 -- what a record has goes to a slice with room for it, with the count and the id beside it
 pub series-as-record :
-    {A : Type 0} (k : Kind A) (payload : List ℕ) (out : List A) (h : Held A) → heldRead k payload ≡ (readRow Record, h) → h .count ≤ length out
+    {A : Type 0} (k : Kind A) (payload : List ℕ) (out : List A) (h : Counted A) → countedRead k payload ≡ (readRow Record, h) → h .count ≤ length out
     → givesSeries (seriesRead k payload out) ≡ given (answerSeries (series.Values (h .id) (h .count))) (take (h .count) (h .places)) out
 series-as-record k payload out h e room =
-    ap givesSeries (lent-as-held k payload h e out room)
-    ∙ given-all (take (h .count) (h .places)) out (answerSeries (series.Values (h .id) (h .count))) (h .count) (held-counted k payload h e) room
+    ap givesSeries (lent-as-counted k payload h e out room)
+    ∙ given-all (take (h .count) (h .places)) out (answerSeries (series.Values (h .id) (h .count))) (h .count) (counted-long k payload h e) room
 
 -- ---- Records of fixed layouts, by what their reader decodes
 

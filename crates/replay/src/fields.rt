@@ -5,7 +5,7 @@ use numbers::get_i32;
 use numbers::get_u16;
 ghost use Prim.Native.Nat.{_≤_};
 
-// One more than a record has values, so that too many stay too many.
+// One more than any record has values, so that too many stay too many.
 pub const PLACES: usize = 30;
 
 // How many fields there are, up to the places.

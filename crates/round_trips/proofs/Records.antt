@@ -30,15 +30,15 @@ use Rattle.records.specs.declared.baro_altitude.BaroAltitude.{BaroAltitude}
 use Rattle.records.specs.declared.baro_altitude.BaroAltitudeRead.the-variants as baro
 use Rattle.records.proofs.Laws.{link-statistics-long, link-statistics-read-written, baro-altitude-long, baro-altitude-read-written}
 use Rattle.records.proofs.BatteryLaws.{battery-long, battery-read-written}
-use Rattle.series.specs.Series.{Kind, Held, heldRead, seriesBytes, heldImage}
-use Rattle.series.specs.Rpm.{rpmType, rpmKind, rpmOf, rpmHeld, rpmRead, rpmImage}
-use Rattle.series.specs.Temp.{tempType, tempKind, tempOf, tempHeld, tempRead, tempImage}
-use Rattle.series.specs.Voltages.{voltagesType, voltagesKind, voltagesOf, voltagesHeld, voltagesRead, voltagesImage}
+use Rattle.series.specs.Series.{Kind, Counted, countedRead, seriesBytes, countedImage}
+use Rattle.series.specs.Rpm.{rpmType, rpmKind, rpmOf, rpmCounted, rpmRead, rpmImage}
+use Rattle.series.specs.Temp.{tempType, tempKind, tempOf, tempCounted, tempRead, tempImage}
+use Rattle.series.specs.Voltages.{voltagesType, voltagesKind, voltagesOf, voltagesCounted, voltagesRead, voltagesImage}
 use Rattle.series.specs.declared.rpm.Rpm.{Rpm}
 use Rattle.series.specs.declared.temp.Temp.{Temp}
 use Rattle.series.specs.declared.voltages.Voltages.{Voltages}
 use Rattle.series.proofs.Values.{Sound}
-use Rattle.series.proofs.SeriesLaws.{image-bytes, image-size, Whole, held-read-written}
+use Rattle.series.proofs.SeriesLaws.{image-bytes, image-size, Whole, counted-read-written}
 use Rattle.series.proofs.SoundKinds.{rpm-sound, temp-sound, voltages-sound}
 use Rattle.channels.specs.Channels.{channelsType, channelBytes, channelsRead, channelsImage}
 use Rattle.channels.specs.Digits.{Below}
@@ -90,24 +90,24 @@ module _ (dest : ℕ) (address : listed dest ≡ true) where
   -- a series comes back as `of` makes a record of it
   module _ {A R : Type 0} (k : Kind A) {Fits : A → Type 0} (sound : Sound k Fits) (enough : k .leastBytes ≤ 1 + k .width) (least : k .leastValues ≤ 1)
       (fits : 1 + k .most * k .width ≤ mostPayload) where
-    series-comes-back : (kind : ℕ) (of : List ℕ × Held A → List ℕ × R) (h : Held A) → Whole k sound h
-        → ComesBack (framed dest kind (heldImage k h)) (λ payload. of (heldRead k payload)) (of (readRow answer.Record, h))
-    series-comes-back kind of h w =
+    series-comes-back : (packetType : ℕ) (of : List ℕ × Counted A → List ℕ × R) (h : Counted A) → Whole k sound h
+        → ComesBack (framed dest packetType (countedImage k h)) (λ payload. of (countedRead k payload)) (of (readRow answer.Record, h))
+    series-comes-back packetType of h w =
         let p : List ℕ = seriesBytes k (h .id) (h .places) (h .count) in
         let e = image-bytes k (h .id) (h .places) (h .count) (omega (arith, w .some)) (w .few) in
         let size = image-size k sound (h .id) (h .places) (h .count) p e in
-        comes-back dest kind address (heldImage k h) p e (omega arith) (λ payload. of (heldRead k payload)) (of (readRow answer.Record, h))
-        (ap of (held-read-written k sound enough h p w e))
+        comes-back dest packetType address (countedImage k h) p e (omega arith) (λ payload. of (countedRead k payload)) (of (readRow answer.Record, h))
+        (ap of (counted-read-written k sound enough h p w e))
 
-  pub rpm-comes-back : (x : Rpm) → Whole rpmKind rpm-sound (rpmHeld x) → ComesBack (framed dest rpmType (rpmImage x)) rpmRead (readRow answer.Record, x)
-  rpm-comes-back x = series-comes-back rpmKind rpm-sound (lit≤ tt) (lit≤ tt) (lit≤ tt) rpmType rpmOf (rpmHeld x)
+  pub rpm-comes-back : (x : Rpm) → Whole rpmKind rpm-sound (rpmCounted x) → ComesBack (framed dest rpmType (rpmImage x)) rpmRead (readRow answer.Record, x)
+  rpm-comes-back x = series-comes-back rpmKind rpm-sound (lit≤ tt) (lit≤ tt) (lit≤ tt) rpmType rpmOf (rpmCounted x)
 
-  pub temp-comes-back : (x : Temp) → Whole tempKind temp-sound (tempHeld x) → ComesBack (framed dest tempType (tempImage x)) tempRead (readRow answer.Record, x)
-  temp-comes-back x = series-comes-back tempKind temp-sound (lit≤ tt) (lit≤ tt) (lit≤ tt) tempType tempOf (tempHeld x)
+  pub temp-comes-back : (x : Temp) → Whole tempKind temp-sound (tempCounted x) → ComesBack (framed dest tempType (tempImage x)) tempRead (readRow answer.Record, x)
+  temp-comes-back x = series-comes-back tempKind temp-sound (lit≤ tt) (lit≤ tt) (lit≤ tt) tempType tempOf (tempCounted x)
 
-  pub voltages-come-back : (x : Voltages) → Whole voltagesKind voltages-sound (voltagesHeld x)
+  pub voltages-come-back : (x : Voltages) → Whole voltagesKind voltages-sound (voltagesCounted x)
       → ComesBack (framed dest voltagesType (voltagesImage x)) voltagesRead (readRow answer.Record, x)
-  voltages-come-back x = series-comes-back voltagesKind voltages-sound (lit≤ tt) (lit≤ tt) (lit≤ tt) voltagesType voltagesOf (voltagesHeld x)
+  voltages-come-back x = series-comes-back voltagesKind voltages-sound (lit≤ tt) (lit≤ tt) (lit≤ tt) voltagesType voltagesOf (voltagesCounted x)
 
   pub channels-come-back : (x : RcChannelsPacked) → length (x .0) ≡ 16 → Below 11 (x .0)
       → ComesBack (framed dest channelsType (channelsImage x)) channelsRead (readRow answer.Record, x)

@@ -231,13 +231,15 @@ fn refusals_in_their_order() {
     assert_eq!(Rpm::from_bytes(&[7, 1]), Err(CrsfParsingError::InvalidPayloadLength));
     let none = Rpm::from_bytes(&[7, 1, 2]).unwrap();
     assert_eq!((none.rpm_source_id, none.rpm_values()), (7, &[][..]));
+    assert_eq!(none.write_packet_to_buffer(&mut buffer, 0xC9), Err(CrsfParsingError::BadAddress));
+    assert_eq!(none.write_packet_to_buffer(&mut buffer[..0], 0xC8), Err(CrsfParsingError::InvalidPayloadLength));
     assert_eq!(Gps::from_bytes(&[0; 14]), Err(CrsfParsingError::InvalidPayloadLength));
     assert_eq!(Battery::from_bytes(&[0; 7]), Err(CrsfParsingError::InvalidPayloadLength));
     assert!(Gps::from_bytes(&[0; 40]).is_ok());
 }
 
 /// The id and the values of a payload that has two bytes for each, from the layout alone.
-fn run_of<N>(payload: &[u8], most: usize, value: fn([u8; 2]) -> N) -> Result<(u8, Vec<N>), CrsfParsingError> {
+fn series_of<N>(payload: &[u8], most: usize, value: fn([u8; 2]) -> N) -> Result<(u8, Vec<N>), CrsfParsingError> {
     if payload.len() < 3 || most < (payload.len() - 1) / 2 {
         return Err(CrsfParsingError::InvalidPayloadLength);
     }
@@ -245,14 +247,14 @@ fn run_of<N>(payload: &[u8], most: usize, value: fn([u8; 2]) -> N) -> Result<(u8
 }
 
 #[test]
-fn runs_of_two_byte_values_read() {
+fn series_of_two_byte_values_read() {
     for len in (0..=64).chain([65, 66, 128, 255, 256, 257, 511, 513, 1000]) {
         let fills = [0x00, 0x01, 0x7F, 0x80, 0xFF].map(|fill| vec![fill; len]);
         for payload in fills.into_iter().chain((0..20).map(|seed| noise(len, seed))) {
             let temp = Temp::from_bytes(&payload).map(|temp| (temp.temp_source_id, temp.temperatures().to_vec()));
-            assert_eq!(temp, run_of(&payload, 20, i16::from_be_bytes), "{payload:02X?}");
+            assert_eq!(temp, series_of(&payload, 20, i16::from_be_bytes), "{payload:02X?}");
             let voltages = Voltages::from_bytes(&payload).map(|voltages| (voltages.voltage_source_id, voltages.voltage_values().to_vec()));
-            assert_eq!(voltages, run_of(&payload, 29, u16::from_be_bytes), "{payload:02X?}");
+            assert_eq!(voltages, series_of(&payload, 29, u16::from_be_bytes), "{payload:02X?}");
         }
     }
 }
@@ -266,7 +268,7 @@ fn made<P: CrsfPacket + PartialEq + std::fmt::Debug>(record: Result<P, CrsfParsi
 }
 
 #[test]
-fn runs_of_two_byte_values_written() {
+fn series_of_two_byte_values_written() {
     const EXTREMES: [u16; 5] = [0, 1, 0x7FFF, 0x8000, 0xFFFF];
     for count in 0..=35 {
         for seed in 0..20 {
