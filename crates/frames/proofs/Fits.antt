@@ -21,7 +21,7 @@ use Rattle.series.specs.declared.rpm.Rpm.{Rpm}
 use Rattle.series.specs.declared.temp.Temp.{Temp}
 use Rattle.series.specs.declared.voltages.Voltages.{Voltages}
 use Rattle.series.proofs.Values.{Sound}
-use Rattle.series.proofs.SeriesLaws.{image-size, new-size}
+use Rattle.series.proofs.WriteLaws.{image-size, new-size}
 use Rattle.series.proofs.SoundKinds.{rpm-sound, temp-sound, voltages-sound}
 use Rattle.layout.specs.Layout.{recordBytes}
 use Rattle.records.specs.LinkStatistics.{linkStatisticsImage}

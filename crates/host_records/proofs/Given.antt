@@ -1,7 +1,7 @@
 -- What the readers for a host give: numbers copied to the front of a slice, then each record by what its reader answers.
 -- Assumes nothing.
 use mathlib.Core.Path.{_≡_, refl, sym, ap, _∙_}
-use mathlib.Core.List.{List, _++_}
+use mathlib.Core.List.{List, [], _∷_, _++_}
 use Prim.Native.Nat.{ℕ, _^_, _≤_, _<_}
 use native.Mathlib.Nat.{mod-eq-of-lt, min-le-right, zero-add}
 use native.Mathlib.Omega.{arith}
@@ -30,10 +30,13 @@ use Rattle.channels.specs.declared.RcChannelsPacked.{RcChannelsPacked}
 use Rattle.series.specs.Series.{Kind, Counted, seriesRead, countedRead}
 use Rattle.series.specs.declared.Series.{Series}
 use Rattle.series.specs.declared.Series.the-variants as series
-use Rattle.series.proofs.SeriesLaws.{in-values, counted-long, lent-as-counted}
+use Rattle.series.proofs.ReadLaws.{in-values}
+use Rattle.series.proofs.SeriesLaws.{counted-long, lent-as-counted}
 use Rattle.host_answer.specs.declared.answer.HostAnswer.{HostAnswer}
 use Rattle.host_answer.specs.Answer.{packed, inBytes, answerRefusal}
+use Rattle.host_answer.specs.Seen.{unpacked}
 use Rattle.host_answer.proofs.Rows.{not-success, row-refusal}
+use Rattle.host_answer.proofs.Packing.{unpack}
 use Rattle.host_records.specs.Read.{given, givenAll, givenShort, gives, keptBattery, byRow, givesChannels, answerSeries, givesSeries}
 
 module _ {A : Type 0} (s d : List A) where
@@ -97,6 +100,23 @@ module _ {A : Type 0} (k : Kind A) (some : 0 < k .leastBytes) (few : k .most < 2
       → (r, after) ≡ givesSeries (seriesRead k payload out)
   series-given {s} {after} read answers =
       ap (λ (n : ℕ). (n, after)) (answers ∙ ap packed (fits s (sym (ap (λ (x : Series × List A). x .0) read)))) ∙ ap givesSeries read
+
+-- the eight bytes (RULES 14): of a series that is read, the fifth says how many values and the sixth is the source id
+pub series-bytes :
+    {A : Type 0} (k : Kind A) → 0 < k .leastBytes → k .most < 256 → (payload : List ℕ) (out : List A) {id n : ℕ} → id < 256
+    → seriesRead k payload out .0 ≡ series.Values id n → unpacked 8 (givesSeries (seriesRead k payload out) .0) ≡ 0 ∷ 0 ∷ 0 ∷ 0 ∷ n ∷ id ∷ 0 ∷ 0 ∷ []
+series-bytes k some few payload out {id} {n} byte e =
+    ap (λ (s : Series). unpacked 8 (packed (answerSeries s))) e
+    ∙ unpack (answerSeries (series.Values id n))
+    (record {
+      number = lit< tt;
+      taken = lit< tt;
+      in-state = lit< tt;
+      at = lit< tt;
+      len = omega (arith, in-values (k .width) (k .leastBytes) (k .most) payload (length out) some e);
+      first = byte;
+      second = lit< tt;
+    })
 
 -- what a record has goes to a slice with room for it, with the count and the id beside it
 pub series-as-record :

@@ -38,7 +38,8 @@ use Rattle.series.specs.declared.rpm.Rpm.{Rpm}
 use Rattle.series.specs.declared.temp.Temp.{Temp}
 use Rattle.series.specs.declared.voltages.Voltages.{Voltages}
 use Rattle.series.proofs.Values.{Sound}
-use Rattle.series.proofs.SeriesLaws.{image-bytes, image-size, Whole, counted-read-written}
+use Rattle.series.proofs.WriteLaws.{image-bytes, image-size}
+use Rattle.series.proofs.SeriesLaws.{Whole, counted-read-written}
 use Rattle.series.proofs.SoundKinds.{rpm-sound, temp-sound, voltages-sound}
 use Rattle.channels.specs.Channels.{channelsType, channelBytes, channelsRead, channelsImage}
 use Rattle.channels.specs.Digits.{Below}
