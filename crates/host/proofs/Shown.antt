@@ -23,7 +23,7 @@ use Rattle.view.specs.declared.RawView.{RawView}
 use Rattle.view.specs.declared.RawView.the-variants as view
 use Rattle.view.proofs.Raw.{shown-whole}
 use Rattle.host_answer.specs.declared.answer.HostAnswer.{HostAnswer}
-use Rattle.host_answer.specs.Answer.{lowestFirst, packed, answerCount, answerRefusal, answerRow}
+use Rattle.host_answer.specs.Answer.{lowestFirst, packed, answerCount, answerRefusal}
 use Rattle.host_answer.specs.Seen.{unpacked}
 use Rattle.host_answer.proofs.Rows.{not-success, row-refusal}
 use Rattle.host_answer.proofs.Packing.{unpack}

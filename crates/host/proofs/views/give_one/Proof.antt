@@ -2,7 +2,6 @@
 use mathlib.Core.Path.{refl, ap, ap₂, _∙_}
 use mathlib.Core.List.{List, [], _∷_}
 use Prim.Native.Nat.{ℕ}
-use native.Mathlib.Omega.{arith}
 use Rattle.host_answer.specs.Answer.{answerCount}
 use Rattle.host_records.proofs.Given.{given-all, given-none}
 use Rattle.host.proofs.Shown.{first-set}
