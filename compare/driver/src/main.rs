@@ -63,7 +63,7 @@ fn options() -> Options {
             "--bench" => o.bench = true,
             "--once" => o.once = true,
             "--record" => o.record = Some(next()),
-            "--emulator" => o.emulator = next().split(' ').map(String::from).collect(),
+            "--emulator" => o.emulator = vec![next()],
             "--list" => o.list = Some(next()),
             "--before-list" => o.before_list = Some(next()),
             other => panic!("{other}? usage: {USAGE}"),
