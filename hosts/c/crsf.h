@@ -251,7 +251,8 @@ crsf_answer crsf_write_voltages(uint8_t *buffer, size_t buffer_len, uint8_t dest
                                 size_t voltage_values_len);
 
 /* Readers: the numbers of a payload to the front of out, in the order and the units of the writer's parameters; len is how many. Refusal 4 for
- * a payload that is too short, then 5 where out is too short, with out unchanged. Bytes of the payload past the record are ignored. */
+ * a payload that is too short, then 5 where out is too short, with out unchanged. Bytes of the payload past the record are ignored, but not
+ * those of the last three. */
 
 enum {
     CRSF_LINK_STATISTICS_NUMBERS = 10,
@@ -272,7 +273,8 @@ crsf_answer crsf_read_gps_extended(const uint8_t *payload, size_t payload_len, i
 crsf_answer crsf_read_battery(const uint8_t *payload, size_t payload_len, int32_t *out, size_t out_len);
 crsf_answer crsf_read_baro_altitude(const uint8_t *payload, size_t payload_len, int32_t *out, size_t out_len);
 /* Of these three the values; first is the source id. Refusal 4 for a payload of fewer than 3 bytes, and for more values than the record has at
- * most. RPM of 3 bytes has no value; temperatures and voltages have one at least. */
+ * most, which is how many places of out are always enough. Left-over bytes of an unfinished value are ignored. RPM of 3 bytes has no value;
+ * temperatures and voltages have one at least. */
 crsf_answer crsf_read_rpm(const uint8_t *payload, size_t payload_len, int32_t *out, size_t out_len);
 crsf_answer crsf_read_temp(const uint8_t *payload, size_t payload_len, int16_t *out, size_t out_len);
 crsf_answer crsf_read_voltages(const uint8_t *payload, size_t payload_len, uint16_t *out, size_t out_len);

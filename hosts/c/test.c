@@ -345,6 +345,18 @@ static void series_reads(const series *r, const uint8_t *payload, size_t n, size
     CHECK(memcmp(got, want, sizeof want) == 0);
 }
 
+/* The check byte, bit by bit (RULES 4.5): nothing of the archive is asked. */
+static uint8_t check_byte(const uint8_t *bytes, size_t n)
+{
+    unsigned rest = 0;
+    for (size_t i = 0; i < n; i++) {
+        rest ^= bytes[i];
+        for (int bit = 0; bit < 8; bit++)
+            rest = rest & 0x80 ? (rest << 1 ^ 0xD5) & 0xFF : rest << 1;
+    }
+    return (uint8_t)rest;
+}
+
 /* What a writer is to answer and to leave in its buffer, from the layout alone. The payload that it wrote is read as the values. */
 static void series_writes(const series *r, uint8_t dest, bool listed, uint8_t id, const uint16_t *values, size_t n, size_t lent)
 {
@@ -366,7 +378,7 @@ static void series_writes(const series *r, uint8_t dest, bool listed, uint8_t id
             want[4 + 2 * i] = (uint8_t)(values[i] / 256);
             want[5 + 2 * i] = (uint8_t)(values[i] % 256);
         }
-        want[4 + 2 * n] = crsf_checksum(want + 2, 2 + 2 * n);
+        want[4 + 2 * n] = check_byte(want + 2, 2 + 2 * n);
         CHECK(count(a, (uint8_t)(5 + 2 * n)));
         CHECK(is(r->read(crsf_frame_payload(got), crsf_frame_payload_len(a), back, n), CRSF_OK, 0, 0, 0, (uint8_t)n, id, 0));
         CHECK(memcmp(back, values, n * sizeof *values) == 0);
@@ -408,11 +420,79 @@ static void each_series(void)
                     for (size_t i = 0; i < sizeof to / sizeof *to; i++)
                         series_writes(r, to[i].dest, to[i].listed, (uint8_t)(shift * 23 + n), values, n, lent);
         }
+        /* counts whose low byte is a good one */
+        static const uint16_t many[600];
+        for (size_t n = 200; n <= 600; n++)
+            for (size_t lent = 0; lent <= 70; lent += 35) {
+                uint8_t got[70];
+                memset(got, 0xAA, sizeof got);
+                CHECK(refusal(r->write(got, lent, 0xC8, 7, many, n), CRSF_INVALID_PAYLOAD_LENGTH));
+                CHECK(refusal(r->write(got, lent, 0xC9, 7, many, n), CRSF_BAD_ADDRESS));
+                for (size_t i = 0; i < sizeof got; i++)
+                    CHECK(got[i] == 0xAA);
+            }
         CHECK(refusal(r->read(NULL, 0, NULL, 0), CRSF_INVALID_PAYLOAD_LENGTH));
         CHECK(refusal(r->read(payload, 3, NULL, 0), CRSF_BUFFER_OVERFLOW));
         CHECK(refusal(r->write(NULL, 0, 0xC9, 7, NULL, 0), CRSF_BAD_ADDRESS));
         CHECK(refusal(r->write(NULL, 0, 0xC8, 7, NULL, 0), CRSF_INVALID_PAYLOAD_LENGTH));
         CHECK(refusal(r->write(NULL, 0, 0xC8, 7, values, 1), CRSF_BUFFER_OVERFLOW));
+    }
+}
+
+/* RPM in the same way: three bytes a value, signed, none where a payload has 3 bytes; new ones have 1 to 19. */
+static void each_rpm(void)
+{
+    uint8_t payload[70];
+    int32_t values[26];
+    const int32_t extremes[] = {0, 1, -1, 255, 256, 65535, 65536, 8388607, -8388608, 8388608, -8388609, 2147483647, -2147483647 - 1};
+    for (unsigned shift = 0; shift < 13; shift++) {
+        for (size_t i = 0; i < 26; i++)
+            values[i] = extremes[(i + shift) % 13];
+        for (size_t i = 0; i < sizeof payload; i++)
+            payload[i] = (uint8_t)((i + shift) % 3 == 0 ? 0x80 : (i + shift) % 3 == 1 ? 0xFF : i * 29);
+        for (size_t n = 0; n <= sizeof payload; n++)
+            for (size_t lent = 0; lent <= 21; lent++) {
+                int32_t want[22], got[22];
+                memset(want, 0x77, sizeof want);
+                memset(got, 0x77, sizeof got);
+                const crsf_answer a = crsf_read_rpm(payload, n, got, lent);
+                const size_t whole = n ? (n - 1) / 3 : 0;
+                if (n < 3 || whole > 19)
+                    CHECK(refusal(a, CRSF_INVALID_PAYLOAD_LENGTH));
+                else if (lent < whole)
+                    CHECK(refusal(a, CRSF_BUFFER_OVERFLOW));
+                else {
+                    CHECK(is(a, CRSF_OK, 0, 0, 0, (uint8_t)whole, payload[0], 0));
+                    for (size_t i = 0; i < whole; i++) {
+                        const uint8_t *b = payload + 1 + 3 * i;
+                        want[i] = b[0] * 65536 + b[1] * 256 + b[2] - (b[0] & 0x80 ? 16777216 : 0);
+                    }
+                }
+                CHECK(memcmp(got, want, sizeof want) == 0);
+            }
+        for (size_t n = 0; n <= 26; n++)
+            for (size_t lent = 0; lent <= 70; lent++)
+                for (unsigned dest = 0xC8; dest <= 0xC9; dest++) {
+                    uint8_t want[80], got[80];
+                    memset(want, 0xAA, sizeof want);
+                    memset(got, 0xAA, sizeof got);
+                    const crsf_answer a = crsf_write_rpm(got, lent, (uint8_t)dest, (uint8_t)shift, values, n);
+                    if (dest == 0xC9)
+                        CHECK(refusal(a, CRSF_BAD_ADDRESS));
+                    else if (n == 0 || n > 19)
+                        CHECK(refusal(a, CRSF_INVALID_PAYLOAD_LENGTH));
+                    else if (lent < 5 + 3 * n)
+                        CHECK(refusal(a, CRSF_BUFFER_OVERFLOW));
+                    else {
+                        const uint8_t head[] = {0xC8, (uint8_t)(3 + 3 * n), CRSF_TYPE_RPM, (uint8_t)shift};
+                        memcpy(want, head, sizeof head);
+                        for (size_t i = 0; i < 3 * n; i++)
+                            want[4 + i] = (uint8_t)((uint32_t)values[i / 3] >> (16 - 8 * (i % 3)));
+                        want[4 + 3 * n] = check_byte(want + 2, 2 + 3 * n);
+                        CHECK(count(a, (uint8_t)(5 + 3 * n)));
+                    }
+                    CHECK(memcmp(got, want, sizeof want) == 0);
+                }
     }
 }
 
@@ -478,6 +558,7 @@ int main(void)
     stream();
     records();
     each_series();
+    each_rpm();
     queries();
     microseconds();
     raw_views();

@@ -114,7 +114,5 @@ fn main() {
         Some(listing) => listing.compare(&mut report, o.seed),
         None => report.left_out("listing: whole programs, every line", "there is no program `list` (rt check list)"),
     }
-    if !report.finish() {
-        std::process::exit(1);
-    }
+    std::process::exit(report.finish());
 }

@@ -439,8 +439,10 @@ pub fn compare(report: &mut Report, seed: u64, random: u64) {
             }
         }
     });
-    run(report, "records written: series of 0 to 35 values, single channels", &mut |s, record| {
-        for n in (0..=35).filter(|_| record.is_series()) {
+    run(report, "records written: series of any count, single channels", &mut |s, record| {
+        // Among those that are far more: the low byte of each is a count that may be written.
+        let counts = (0..=35).chain([256 + 1, 256 + 19, 256 + 20, 256 + 29, 65536 + 1]);
+        for n in counts.filter(|_| record.is_series()) {
             for (dest, len) in [0xC8, 0xC9].into_iter().flat_map(|dest| (0..=70).map(move |len| (dest, len))) {
                 let fields: Vec<i64> = (0..=n).map(|i| record.random_field(&mut s.rng, i.min(record.ranges.len() - 1))).collect();
                 if !record.is_left_out(&fields) {
@@ -518,11 +520,11 @@ fn beyond(report: &mut Report) {
         for record in RECORDS.iter().filter(|record| record.is_left_out(&[0])) {
             for (dest, len) in (0..=255).flat_map(|dest| (0..=70).map(move |len| (dest, len))) {
                 let mut buffer = [0x5A; 70];
-                let got = (record.write_ours)(&[7], dest, &mut buffer[..len]);
+                let got = (record.write_ours)(&[0], dest, &mut buffer[..len]);
                 let number = if ADDRESSES.contains(&dest) { ours::INVALID_PAYLOAD_LENGTH } else { ours::BAD_ADDRESS };
                 let input = || format!("{} without a value to {dest:02X} in {len} bytes, by RULES 10", record.name);
                 family.same((Answer::refusal(number), [0x5A; 70]), (got, buffer), input);
-                if let Some(told) = record.write_differs(&[7], dest, len, 0x5A) {
+                if let Some(told) = record.write_differs(&[0], dest, len, 0x5A) {
                     if empty {
                         family.differs_as_listed();
                     } else {
@@ -530,6 +532,13 @@ fn beyond(report: &mut Report) {
                     }
                 }
             }
+            // What is listed of the Rust: it writes the id alone.
+            let mut frame = [0; 5];
+            let written = (record.write_rust)(&[0], PacketAddress::FlightController, &mut frame).ok();
+            let kind = if record.name == "temperatures" { 0x0D } else { 0x0E };
+            family.same((Some(5), [0xC8, 3, kind, 0]), (written, [frame[0], frame[1], frame[2], frame[3]]), || {
+                format!("the Rust's own {} without a value", record.name)
+            });
         }
     });
     report.family("places to read into, 0 to 34: by RULES 14 alone", |family| {

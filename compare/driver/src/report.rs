@@ -41,19 +41,21 @@ pub struct Report {
     compared: u64,
     differ: u64,
     listed: u64,
+    left_out: u64,
 }
 
 impl Report {
     /// `differences` is the text of docs/DIFFERENCES.md.
     pub fn new(differences: String) -> Report {
-        Report { differences, compared: 0, differ: 0, listed: 0 }
+        Report { differences, compared: 0, differ: 0, listed: 0, left_out: 0 }
     }
     /// Whether a row of docs/DIFFERENCES.md begins with this input, the smallest of its kind.
     pub fn lists(&self, input: &str) -> bool {
         self.differences.lines().any(|line| line.starts_with(&format!("| {input} |")))
     }
     /// Says that a family was left out, and why.
-    pub fn left_out(&self, name: &str, why: &str) {
+    pub fn left_out(&mut self, name: &str, why: &str) {
+        self.left_out += 1;
         println!("{name:<58} NOT COMPARED: {why}");
     }
     /// Runs one family and prints its line.
@@ -72,9 +74,13 @@ impl Report {
         self.differ += f.differ;
         self.listed += f.listed;
     }
-    /// Prints the sums. Whether all agree.
-    pub fn finish(self) -> bool {
+    /// Prints the sums. The status: 1 where an answer differs that is not listed, 2 where a family was left out.
+    pub fn finish(self) -> i32 {
         println!("{:<58} {:>11} compared {:>6} differ, {} differ as listed", "in all", self.compared, self.differ, self.listed);
-        self.differ == 0
+        match self {
+            Report { differ: 0, left_out: 0, .. } => 0,
+            Report { differ: 0, .. } => 2,
+            _ => 1,
+        }
     }
 }

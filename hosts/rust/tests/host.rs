@@ -148,6 +148,11 @@ fn malformed_forms_are_refused() {
     }
 }
 
+/// The check byte, bit by bit (RULES 4.5): nothing of the archive is asked.
+fn check_byte(bytes: &[u8]) -> u8 {
+    bytes.iter().fold(0, |rest, byte| (0..8).fold(rest ^ byte, |rest: u8, _| if rest & 0x80 == 0 { rest << 1 } else { rest << 1 ^ 0xD5 }))
+}
+
 /// Written, read back through a parser, and every shorter buffer refused.
 fn comes_back<P: CrsfPacket + PartialEq + std::fmt::Debug>(packet: P, payload: &[u8]) {
     let mut buffer = [0xAA; 70];
@@ -157,7 +162,7 @@ fn comes_back<P: CrsfPacket + PartialEq + std::fmt::Debug>(packet: P, payload: &
     let mut input = &buffer[..n];
     let frame = parser.next_raw_packet(&mut input).unwrap().unwrap();
     assert_eq!((frame.dst_addr(), frame.raw_packet_type(), frame.payload()), (0xC8, P::PACKET_TYPE, payload));
-    assert_eq!(frame.crc(), checksum(&frame.as_bytes()[2..n - 1]));
+    assert_eq!(frame.crc(), check_byte(&frame.as_bytes()[2..n - 1]));
     assert_eq!(P::from_bytes(frame.payload()).as_ref(), Ok(&packet));
     for short in 0..n {
         let mut buffer = [0xAA; 70];
@@ -236,6 +241,34 @@ fn refusals_in_their_order() {
     assert_eq!(Gps::from_bytes(&[0; 14]), Err(CrsfParsingError::InvalidPayloadLength));
     assert_eq!(Battery::from_bytes(&[0; 7]), Err(CrsfParsingError::InvalidPayloadLength));
     assert!(Gps::from_bytes(&[0; 40]).is_ok());
+}
+
+#[test]
+fn rpm_read() {
+    for len in (0..=64).chain([65, 66, 128, 255, 256, 257, 770, 1000]) {
+        for seed in 0..20 {
+            let payload = noise(len, seed);
+            let rpm = Rpm::from_bytes(&payload).map(|rpm| (rpm.rpm_source_id, rpm.rpm_values().to_vec()));
+            let expected = if len < 3 || 19 < (len - 1) / 3 {
+                Err(CrsfParsingError::InvalidPayloadLength)
+            } else {
+                Ok((payload[0], payload[1..].chunks_exact(3).map(|b| i32::from_be_bytes([b[0], b[1], b[2], 0]) >> 8).collect()))
+            };
+            assert_eq!(rpm, expected, "{payload:02X?}");
+        }
+    }
+}
+
+#[test]
+fn rpm_written() {
+    const EXTREMES: [i32; 7] = [0, 1, -1, 8388607, -8388608, 65536, -256];
+    for count in 0..=25 {
+        for shift in 0..7 {
+            let values: Vec<i32> = (0..count).map(|i| EXTREMES[(i + shift) % 7]).collect();
+            let payload: Vec<u8> = std::iter::once(shift as u8).chain(values.iter().flat_map(|v| v.to_be_bytes()[1..].to_vec())).collect();
+            made(Rpm::new(shift as u8, &values), count, 19, &payload);
+        }
+    }
 }
 
 /// The id and the values of a payload that has two bytes for each, from the layout alone.
