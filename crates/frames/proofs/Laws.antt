@@ -1,18 +1,24 @@
--- What is written is a valid frame, and its reading is that frame.
+-- What is written is a valid frame, and its reading is that frame; and the order in which a writer refuses.
 -- Assumes nothing.
-use mathlib.Core.Path.{_≡_, sym, ap, _∙_}
-use mathlib.Core.Bool.{true}
+use mathlib.Core.Path.{_≡_, refl, sym, ap, _∙_}
+use mathlib.Core.Bool.{true, false}
 use mathlib.Core.List.{List, [], _∷_, _++_, append-nil}
-use Prim.Native.Nat.{ℕ, _≤_}
+use Prim.Native.Nat.{ℕ, _+_, _≤_, _<_}
 use native.Mathlib.Omega.{arith}
 use lib.ListN.{length}
+use Rattle.refusals.specs.Row.{rowOf}
+use Rattle.refusals.specs.declared.Refusal.{Refusal}
+use Rattle.refusals.specs.declared.Refusal.the-variants.{BufferOverflow, BadAddress}
+use Rattle.writing.specs.Writing.{Image, bytes, refused, writtenRow, writeOf}
+use Rattle.writing.proofs.Writing.{refuses}
 use Rattle.packets.specs.Listed.{listed}
 use Rattle.reading.specs.Answer.{Frame}
 use Rattle.reading.specs.Reading.{limit, reading, _⊕_}
 use Rattle.reading.specs.Frame.{frame, Valid}
-use Rattle.frames.specs.Frames.{mostPayload}
+use Rattle.frames.specs.Frames.{overhead, mostPayload, framed, framedBody}
 use Rattle.reading.proofs.Tests.{good-length}
 use Rattle.reading.proofs.Frame.{frame-valid, frames-read}
+use Rattle.frames.proofs.Built.{short}
 
 module _ (dest kind : ℕ) (payload : List ℕ) (address : listed dest ≡ true) (few : length payload ≤ mostPayload) where
   pub written-valid : Valid limit (frame dest (kind ∷ payload))
@@ -24,3 +30,19 @@ module _ (dest kind : ℕ) (payload : List ℕ) (address : listed dest ≡ true)
   written-reads more =
       ap (λ (s : List ℕ). reading limit (s ++ more)) (sym (append-nil (frame dest (kind ∷ payload))))
       ∙ frames-read limit (frame dest (kind ∷ payload) ∷ []) more (written-valid, tt)
+
+-- ---- THE ORDER OF REFUSALS: the address (7), then the record's own (4, 6), then the room (5); the buffer stays as it was
+
+module _ (dest kind : ℕ) (b : List ℕ) where
+  pub address-first : (image : Image) → listed dest ≡ false → writeOf (framed dest kind image) b ≡ (rowOf BadAddress, b)
+  unfolding framed writtenRow
+  address-first image none = rw none (sym (refuses BadAddress b))
+
+  pub record-second : (r : Refusal) → listed dest ≡ true → writeOf (framed dest kind (refused r)) b ≡ (rowOf r, b)
+  unfolding framed framedBody writtenRow
+  record-second r address = rw address (sym (refuses r b))
+
+  pub room-last : (payload : List ℕ) → listed dest ≡ true → length b < length payload + overhead
+      → writeOf (framed dest kind (bytes payload)) b ≡ (rowOf BufferOverflow, b)
+  unfolding framed writtenRow
+  room-last payload address less = rw address (sym (short payload (length payload) dest kind refl b less))

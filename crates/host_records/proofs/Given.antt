@@ -3,16 +3,15 @@
 use mathlib.Core.Path.{_≡_, refl, sym, ap, _∙_}
 use mathlib.Core.List.{List, [], _∷_, _++_}
 use Prim.Native.Nat.{ℕ, _^_, _≤_, _<_}
-use native.Mathlib.Nat.{mod-eq-of-lt, min-le-right, zero-add}
+use native.Mathlib.Nat.{mod-eq-of-lt}
 use native.Mathlib.Omega.{arith}
 use borrow.Author.Tests.{le-leb, lt-leb, leb-true}
 use lib.Dec.{leb, lit<}
 use lib.IntN.{ℤ}
-use lib.ListN.{length, take, drop, length-take, take-append-drop}
-use lib.Seq.{take-append-seam}
+use lib.ListN.{length, take, drop}
 use Rattle.base.specs.Bytes.{Bytes}
-use Rattle.base.specs.Parts.{part, copied}
-use Rattle.base.proofs.Parts.{length-part, bytes-part, copied-fits}
+use Rattle.base.specs.Parts.{part}
+use Rattle.base.proofs.Parts.{length-part, bytes-part}
 use Rattle.base.proofs.Tests.{by-test}
 use Rattle.refusals.specs.Row.{rowOf}
 use Rattle.refusals.specs.declared.Refusal.{Refusal}
@@ -39,24 +38,14 @@ use Rattle.host_answer.proofs.Rows.{not-success, row-refusal}
 use Rattle.host_answer.proofs.Packing.{unpack}
 use Rattle.host_records.specs.Read.{given, givenAll, givenShort, gives, keptBattery, byRow, givesChannels, answerSeries, givesSeries}
 
-module _ {A : Type 0} (s d : List A) where
-  take-counted : (n : ℕ) → take (length (take n s)) s ≡ take n s
-  take-counted n = ap (take (length (take n s))) (sym (take-append-drop n s)) ∙ take-append-seam (take n s) (drop n s)
+module _ {A : Type 0} (s d : List A) (answer : HostAnswer) (n : ℕ) (size : length s ≡ n) where
+  pub given-all : n ≤ length d → (packed answer, s ++ drop n d) ≡ given answer s d
+  unfolding given
+  given-all room = simp (size, le-leb _ _ room)
 
-  -- a copy of as many as the first n are
-  pub copied-front : (n k : ℕ) → k ≡ length (take n s) → k ≤ length d → copied d 0 s k ≡ take n s ++ drop k d
-  copied-front n k e room =
-      let few : k ≤ length s = rw (e, length-take) (min-le-right n (length s)) in
-      rw (copied-fits d 0 s k (omega arith) few, zero-add, e, take-counted n)
-
-  module _ (answer : HostAnswer) (n : ℕ) (size : length s ≡ n) where
-    pub given-all : n ≤ length d → (packed answer, s ++ drop n d) ≡ given answer s d
-    unfolding given
-    given-all room = simp (size, le-leb _ _ room)
-
-    pub given-none : length d < n → (packed (answerRefusal BufferOverflow), d) ≡ given answer s d
-    unfolding given
-    given-none short = simp (size, lt-leb _ _ short)
+  pub given-none : length d < n → (packed (answerRefusal BufferOverflow), d) ≡ given answer s d
+  unfolding given
+  given-none short = simp (size, lt-leb _ _ short)
 
 -- all of the numbers that a function lists: few enough that a byte has their count
 pub all-given : {A : Type 0} (out : List A) {ws vs : List A} {gave : ℕ × List A} → gave ≡ givenShort vs out → vs ≡ ws → length ws < 256 → gave ≡ givenAll ws out

@@ -6,7 +6,6 @@ use channels::RcChannelsPacked;
 use host_answer::answer::HostAnswer;
 use host_answer::answer::count;
 use host_answer::answer::pack;
-use host_answer::answer::placed;
 use host_answer::answer::refuse;
 use positions::gps::Gps;
 use positions::gps_extended::GpsExtended;
@@ -19,7 +18,6 @@ use series::rpm::Rpm;
 use series::temp::Temp;
 use series::voltages::Voltages;
 ghost use mathlib.Core.Path.{_≡_};
-ghost use lib.ListN.{length, take};
 ghost use Rattle.positions.specs.Gps.{gpsValues};
 ghost use Rattle.positions.specs.GpsExtended.{gpsExtendedValues};
 ghost use Rattle.records.specs.LinkStatistics.{linkStatisticsValues};
@@ -30,36 +28,18 @@ ghost use Rattle.series.specs.Rpm.{rpmKind};
 ghost use Rattle.series.specs.Temp.{tempKind};
 ghost use Rattle.series.specs.Voltages.{voltagesKind};
 ghost use Rattle.host_answer.specs.Answer.{packed, inBytes};
-ghost use Rattle.host_records.specs.Read.{given, givenShort, givenAll, keptBattery, answerSeries, givesSeries};
-
-// How many values the first n are: n, or all that there are.
-fn at_most(values: &[i32], n: usize) -> usize
-    ensures { λ r. ⌜ r ≡ length (take n (now (values .entry))) ⌝ }
-{
-    if values.len() < n {
-        return values.len();
-    }
-    n
-}
-
-// The first n of the values, and the answer where there is room for them.
-fn give(answer: HostAnswer, values: &[i32], n: usize, out: &mut [i32]) -> u64
-    ensures { λ r. ⌜ (r, now (out .exit)) ≡ given answer (take n (now (values .entry))) (now (out .entry)) ⌝ }
-{
-    let count = at_most(values, n);
-    if out.len() < count {
-        return refuse(Refusal::BufferOverflow);
-    }
-    copy_i32(out, values, count);
-    pack(answer)
-}
+ghost use Rattle.host_records.specs.Read.{givenShort, givenAll, keptBattery, answerSeries, givesSeries};
 
 // All of the values, and how many they are.
 fn give_all(values: &[i32], out: &mut [i32]) -> u64
     ensures { λ r. ⌜ (r, now (out .exit)) ≡ givenShort (now (values .entry)) (now (out .entry)) ⌝ }
 {
-    let n = values.len();
-    give(placed(0, 0, 0, narrow(n)), values, n, out)
+    let size = values.len();
+    if out.len() < size {
+        return refuse(Refusal::BufferOverflow);
+    }
+    copy_i32(out, values, size);
+    count(size)
 }
 
 fn link_statistics_values(x: LinkStatistics) -> [i32; 10]

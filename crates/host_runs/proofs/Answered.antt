@@ -1,13 +1,12 @@
 -- What a host reads off an answer is what the call said; and whether an entry succeeded.
 -- Assumes nothing.
 use mathlib.Core.Path.{_≡_, refl, sym, ap, ap₂, _∙_}
-use mathlib.Core.Bool.{true, false}
 use mathlib.Core.List.{List, [], _∷_, map}
 use Prim.Native.Nat.{ℕ, _<_}
 use native.Mathlib.Omega.{arith}
 use borrow.Author.Tests.{ne-eqb}
 use lib.Dec.{leb, lit<}
-use lib.ListN.{length, getD, take, drop}
+use lib.ListN.{length, getD}
 use lib.Seq.{drop-drop}
 use Rattle.base.proofs.Tests.{by-test}
 use Rattle.refusals.specs.Row.{rowOf, numberOf}
@@ -23,7 +22,6 @@ use Rattle.stream.specs.declared.step.Reply.the-variants.{More, Frame, Refused}
 use Rattle.host_state.specs.State.{placesIn}
 use Rattle.host_answer.specs.Answer.{packed, answerRow, answers}
 use Rattle.host_answer.specs.Reply.{answerReply, Calls}
-use Rattle.host_answer.specs.Seen.{unpacked}
 use Rattle.host_answer.proofs.Rows.{not-success}
 use Rattle.host_answer.proofs.Packing.{Whole, unpack}
 use Rattle.host_answer.proofs.Fits.{Fits, call-fits, Short}

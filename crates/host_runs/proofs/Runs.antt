@@ -2,17 +2,16 @@
 -- behind; and where a call on all that is unread asks for more, it is all that the reading answers, the tail is held, and that is fewer bytes than the limit.
 -- Assumes nothing.
 use mathlib.Core.Path.{_≡_, refl, sym, ap, ap₂, _∙_, subst}
-use mathlib.Core.Bool.{true, false}
-use mathlib.Core.List.{List, [], _∷_, _++_, map, map-append}
+use mathlib.Core.Bool.{true}
+use mathlib.Core.List.{List, [], _++_, map, map-append}
 use Prim.Native.Nat.{ℕ, _-_, _≤_, _<_}
 use native.Mathlib.Omega.{arith}
 use borrow.Author.Tests.{ltb-true}
-use lib.Dec.{ltb, lit≤, lit<}
+use lib.Dec.{ltb, lit≤}
 use lib.ListN.{length, take, drop}
 use Rattle.base.proofs.Tests.{by-test}
 use Rattle.refusals.specs.Row.{rowOf}
 use Rattle.refusals.specs.declared.Refusal.the-variants.{BadState}
-use Rattle.writing.specs.Writing.{Image, bytes, refused, writeOf}
 use Rattle.reading.specs.Answer as reading
 use Rattle.reading.specs.Answer.{row}
 use Rattle.reading.specs.Reading.{limit, Reading, reading, stop}
@@ -20,14 +19,13 @@ use Rattle.reading.specs.Call.{call}
 use Rattle.reading.specs.History.{answered, History}
 use Rattle.reading.specs.History as history
 use Rattle.reading.proofs.History.{faithful}
-use Rattle.stream.specs.Places.{heldIn}
 use Rattle.stream.specs.Step.{Moves}
 use Rattle.stream.specs.Rows.{rowsOf}
 use Rattle.stream.proofs.Replies.{rows-on, asks, held-is}
 use Rattle.stream.proofs.Histories.{goes-on}
 use Rattle.saved.specs.Form.{savedForm, isForm, heldOf}
 use Rattle.saved.proofs.Forms.{length-form}
-use Rattle.host_state.specs.State.{size, startIn, endIn, placesIn, heldBy, hasSize, isState}
+use Rattle.host_state.specs.State.{size, startIn, endIn, placesIn, heldBy, isState}
 use Rattle.host_state.specs.Step.{movedIn}
 use Rattle.host_state.specs.Saving.{resetState, stateImage, restoreState}
 use Rattle.host_state.proofs.States.{has-size, state-size, state-span}
@@ -35,7 +33,7 @@ use Rattle.host_state.proofs.Laws.{Holds, still-state, reset-holds-nothing, ima
 use Rattle.host_answer.specs.Answer.{answers}
 use Rattle.host_answer.specs.Reply.{Calls}
 use Rattle.host_answer.proofs.Fits.{Short}
-use Rattle.host_runs.specs.Answered.{numberIn, takenIn, lenIn, saidIn, saidBy}
+use Rattle.host_runs.specs.Answered.{numberIn, lenIn, saidBy}
 use Rattle.host_runs.specs.Run.{HostRun, reset, restore, offer, next, resume}
 use Rattle.host_runs.proofs.Answered.{said-is, taken-is, asks-is, refused-number, wrote-is}
 

@@ -66,56 +66,53 @@ pub fn reads_voltages(payload: &[u8], e: Expected, f: &[u8]) -> bool {
     same_u16(&values, f)
 }
 
-fn rpm(buffer: &mut [u8], dest: u8, id: u8, f: &[u8]) -> Written {
+// A series goes from its values straight to a frame, or, where a record can be made of them, by way of that.
+fn rpm(buffer: &mut [u8], dest: u8, id: u8, f: &[u8], by_record: bool) -> Written {
     let count = count_of(f);
     let mut values = [0i32; PLACES];
     fill_i32(&mut values, f);
     let made = Rpm::new(id, &values[0..count]);
     let answer = made.answer;
     let r = made.rpm;
-    match answer {
-        ReadAnswer::Refused(refusal) => Written::Refused(refusal),
-        ReadAnswer::Record => frames::write_rpm(buffer, dest, r),
+    if by_record && is_number(answer, 0) {
+        return frames::write_rpm(buffer, dest, r);
     }
+    frames::write_rpm_values(buffer, dest, id, &values[0..count])
 }
 
-fn temp(buffer: &mut [u8], dest: u8, id: u8, f: &[u8]) -> Written {
+fn temp(buffer: &mut [u8], dest: u8, id: u8, f: &[u8], by_record: bool) -> Written {
     let count = count_of(f);
     let mut values = [0i16; PLACES];
     fill_i16(&mut values, f);
     let made = Temp::new(id, &values[0..count]);
     let answer = made.answer;
     let r = made.temp;
-    match answer {
-        ReadAnswer::Refused(refusal) => Written::Refused(refusal),
-        ReadAnswer::Record => frames::write_temp(buffer, dest, r),
+    if by_record && is_number(answer, 0) {
+        return frames::write_temp(buffer, dest, r);
     }
+    frames::write_temp_values(buffer, dest, id, &values[0..count])
 }
 
-fn voltages(buffer: &mut [u8], dest: u8, id: u8, f: &[u8]) -> Written {
+fn voltages(buffer: &mut [u8], dest: u8, id: u8, f: &[u8], by_record: bool) -> Written {
     let count = count_of(f);
     let mut values = [0u16; PLACES];
     fill_u16(&mut values, f);
     let made = Voltages::new(id, &values[0..count]);
     let answer = made.answer;
     let r = made.voltages;
-    match answer {
-        ReadAnswer::Refused(refusal) => Written::Refused(refusal),
-        ReadAnswer::Record => frames::write_voltages(buffer, dest, r),
+    if by_record && is_number(answer, 0) {
+        return frames::write_voltages(buffer, dest, r);
     }
+    frames::write_voltages_values(buffer, dest, id, &values[0..count])
 }
 
-// A record that can't be made is not written; its destination is looked at first all the same.
-pub fn writes(kind: u8, buffer: &mut [u8], dest: u8, f: &[u8]) -> Written {
-    if !packets::is_address(dest) {
-        return Written::Refused(Refusal::BadAddress);
-    }
+pub fn writes(kind: u8, buffer: &mut [u8], dest: u8, f: &[u8], by_record: bool) -> Written {
     let id = byte_at(f, 3);
     let values = bytes_from(f, 4, f.len());
     match kind {
-        26 => rpm(buffer, dest, id, values),
-        27 => temp(buffer, dest, id, values),
-        28 => voltages(buffer, dest, id, values),
+        26 => rpm(buffer, dest, id, values, by_record),
+        27 => temp(buffer, dest, id, values, by_record),
+        28 => voltages(buffer, dest, id, values, by_record),
         // No case expects this.
         _ => Written::Refused(Refusal::BadState),
     }

@@ -90,7 +90,7 @@ fn baro_altitude(buffer: &mut [u8], dest: u8, f: &[u8]) -> Written {
     frames::write_baro_altitude(buffer, dest, r)
 }
 
-fn write(kind: u8, buffer: &mut [u8], dest: u8, f: &[u8]) -> Written {
+fn write(kind: u8, buffer: &mut [u8], dest: u8, f: &[u8], by_record: bool) -> Written {
     match kind {
         20 => link_statistics(buffer, dest, f),
         21 => channels(buffer, dest, f),
@@ -98,7 +98,7 @@ fn write(kind: u8, buffer: &mut [u8], dest: u8, f: &[u8]) -> Written {
         23 => gps_extended(buffer, dest, f),
         24 => battery(buffer, dest, f),
         25 => baro_altitude(buffer, dest, f),
-        _ => series_cases::writes(kind, buffer, dest, f),
+        _ => series_cases::writes(kind, buffer, dest, f, by_record),
     }
 }
 
@@ -109,20 +109,21 @@ fn is_expected(e: Expected, written: Written) -> bool {
     }
 }
 
-// The buffer is as long as the expected one.
-fn writes_into(buffer: &mut [u8], kind: u8, e: Expected, f: &[u8], dest: u8, whole: &[u8]) -> bool {
-    if !is_expected(e, write(kind, buffer, dest, f)) {
-        return false;
-    }
-    check::same(buffer, whole)
-}
-
-// `to` is the destination, and the byte that fills the buffer.
-pub fn writes(kind: u8, e: Expected, f: &[u8], to: &[u8], whole: &[u8]) -> bool {
+// The buffer is as long as the expected one. `to` is the destination, and the byte that fills the buffer.
+fn writes_by(kind: u8, e: Expected, f: &[u8], to: &[u8], whole: &[u8], by_record: bool) -> bool {
     let mut places = [byte_at(to, 1); 80];
     let n = whole.len();
     if places.len() < n {
         return false;
     }
-    writes_into(&mut places[0..n], kind, e, f, byte_at(to, 0), whole)
+    let buffer = &mut places[0..n];
+    if !is_expected(e, write(kind, buffer, byte_at(to, 0), f, by_record)) {
+        return false;
+    }
+    check::same(buffer, whole)
+}
+
+// A series in both ways that it is written in (series_cases.rt); the others have one.
+pub fn writes(kind: u8, e: Expected, f: &[u8], to: &[u8], whole: &[u8]) -> bool {
+    writes_by(kind, e, f, to, whole, false) && (kind < 26 || writes_by(kind, e, f, to, whole, true))
 }

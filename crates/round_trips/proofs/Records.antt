@@ -3,11 +3,13 @@
 use mathlib.Core.Path.{_≡_, refl, sym, ap, _∙_}
 use mathlib.Core.Bool.{true}
 use mathlib.Core.List.{List, [], append-nil}
-use Prim.Native.Nat.{ℕ, _+_, _*_, _≤_}
+use Prim.Native.Nat.{ℕ, _+_, _*_, _^_, _≤_, _<_}
 use native.Mathlib.Omega.{arith}
 use lib.Dec.{eqb, lit≤}
-use lib.ListN.{length}
+use lib.IntN.{ℤ, pos}
+use lib.ListN.{length, getD}
 use Rattle.base.proofs.Tests.{by-test}
+use Rattle.numbers.specs.TwosComplement.{InRange}
 use Rattle.packets.specs.Listed.{listed}
 use Rattle.layout.specs.Layout.{sizeOf, HoldsAll, recordBytes}
 use Rattle.layout.specs.Decoded.{readRow}
@@ -30,16 +32,16 @@ use Rattle.records.specs.declared.baro_altitude.BaroAltitude.{BaroAltitude}
 use Rattle.records.specs.declared.baro_altitude.BaroAltitudeRead.the-variants as baro
 use Rattle.records.proofs.Laws.{link-statistics-long, link-statistics-read-written, baro-altitude-long, baro-altitude-read-written}
 use Rattle.records.proofs.BatteryLaws.{battery-long, battery-read-written}
-use Rattle.series.specs.Series.{Kind, Counted, countedRead, seriesBytes, countedImage}
-use Rattle.series.specs.Rpm.{rpmType, rpmKind, rpmOf, rpmCounted, rpmRead, rpmImage}
-use Rattle.series.specs.Temp.{tempType, tempKind, tempOf, tempCounted, tempRead, tempImage}
-use Rattle.series.specs.Voltages.{voltagesType, voltagesKind, voltagesOf, voltagesCounted, voltagesRead, voltagesImage}
+use Rattle.series.specs.Series.{Kind, Counted, countedMade, countedRead, seriesBytes, countedImage, newImage}
+use Rattle.series.specs.Rpm.{rpmType, rpmKind, rpmOf, rpmCounted, rpmMade, rpmRead, rpmImage}
+use Rattle.series.specs.Temp.{tempType, tempKind, tempOf, tempCounted, tempMade, tempRead, tempImage}
+use Rattle.series.specs.Voltages.{voltagesType, voltagesKind, voltagesOf, voltagesCounted, voltagesMade, voltagesRead, voltagesImage}
 use Rattle.series.specs.declared.rpm.Rpm.{Rpm}
 use Rattle.series.specs.declared.temp.Temp.{Temp}
 use Rattle.series.specs.declared.voltages.Voltages.{Voltages}
 use Rattle.series.proofs.Values.{Sound}
-use Rattle.series.proofs.WriteLaws.{image-bytes, image-size}
-use Rattle.series.proofs.SeriesLaws.{Whole, counted-read-written}
+use Rattle.series.proofs.WriteLaws.{image-bytes, image-size, new-some, new-size}
+use Rattle.series.proofs.SeriesLaws.{Whole, counted-read-written, made-read-written}
 use Rattle.series.proofs.SoundKinds.{rpm-sound, temp-sound, voltages-sound}
 use Rattle.channels.specs.Channels.{channelsType, channelBytes, channelsRead, channelsImage}
 use Rattle.channels.specs.Digits.{Below}
@@ -100,6 +102,17 @@ module _ (dest : ℕ) (address : listed dest ≡ true) where
         comes-back dest packetType address (countedImage k h) p e (omega arith) (λ payload. of (countedRead k payload)) (of (readRow answer.Record, h))
         (ap of (counted-read-written k sound enough h p w e))
 
+    -- and one newly made comes back as it was made
+    new-series-comes-back : (packetType : ℕ) (of : List ℕ × Counted A → List ℕ × R) (id : ℕ) (vs : List A) → id < 256 → 1 ≤ length vs → length vs ≤ k .most
+        → ((i : ℕ) → i < length vs → Fits (getD vs i (k .empty)))
+        → ComesBack (framed dest packetType (newImage k id vs)) (λ payload. of (countedRead k payload)) (of (countedMade k id vs))
+    new-series-comes-back packetType of id vs byte some few values =
+        let p : List ℕ = seriesBytes k id vs (length vs) in
+        let e = new-some k id vs some ∙ image-bytes k id vs (length vs) (omega arith) few in
+        let size = new-size k sound id vs p e in
+        comes-back dest packetType address (newImage k id vs) p e (omega arith) (λ payload. of (countedRead k payload)) (of (countedMade k id vs))
+        (ap of (made-read-written k sound enough id vs p byte some few values e))
+
   pub rpm-comes-back : (x : Rpm) → Whole rpmKind rpm-sound (rpmCounted x) → ComesBack (framed dest rpmType (rpmImage x)) rpmRead (readRow answer.Record, x)
   rpm-comes-back x = series-comes-back rpmKind rpm-sound (lit≤ tt) (lit≤ tt) (lit≤ tt) rpmType rpmOf (rpmCounted x)
 
@@ -109,6 +122,19 @@ module _ (dest : ℕ) (address : listed dest ≡ true) where
   pub voltages-come-back : (x : Voltages) → Whole voltagesKind voltages-sound (voltagesCounted x)
       → ComesBack (framed dest voltagesType (voltagesImage x)) voltagesRead (readRow answer.Record, x)
   voltages-come-back x = series-comes-back voltagesKind voltages-sound (lit≤ tt) (lit≤ tt) (lit≤ tt) voltagesType voltagesOf (voltagesCounted x)
+
+  -- as a host writes them, straight from values
+  pub rpm-values-come-back : (id : ℕ) (vs : List ℤ) → id < 256 → 1 ≤ length vs → length vs ≤ 19 → ((i : ℕ) → i < length vs → InRange 3 (getD vs i (pos 0)))
+      → ComesBack (framed dest rpmType (newImage rpmKind id vs)) rpmRead (rpmMade id vs)
+  rpm-values-come-back = new-series-comes-back rpmKind rpm-sound (lit≤ tt) (lit≤ tt) (lit≤ tt) rpmType rpmOf
+
+  pub temp-values-come-back : (id : ℕ) (vs : List ℤ) → id < 256 → 1 ≤ length vs → length vs ≤ 20 → ((i : ℕ) → i < length vs → InRange 2 (getD vs i (pos 0)))
+      → ComesBack (framed dest tempType (newImage tempKind id vs)) tempRead (tempMade id vs)
+  temp-values-come-back = new-series-comes-back tempKind temp-sound (lit≤ tt) (lit≤ tt) (lit≤ tt) tempType tempOf
+
+  pub voltages-values-come-back : (id : ℕ) (vs : List ℕ) → id < 256 → 1 ≤ length vs → length vs ≤ 29 → ((i : ℕ) → i < length vs → getD vs i 0 < 256 ^ 2)
+      → ComesBack (framed dest voltagesType (newImage voltagesKind id vs)) voltagesRead (voltagesMade id vs)
+  voltages-values-come-back = new-series-comes-back voltagesKind voltages-sound (lit≤ tt) (lit≤ tt) (lit≤ tt) voltagesType voltagesOf
 
   pub channels-come-back : (x : RcChannelsPacked) → length (x .0) ≡ 16 → Below 11 (x .0)
       → ComesBack (framed dest channelsType (channelsImage x)) channelsRead (readRow answer.Record, x)

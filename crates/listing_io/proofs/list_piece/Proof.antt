@@ -3,7 +3,7 @@ use mathlib.Core.Path.{subst, sym, _∙_}
 use mathlib.Core.List.{List}
 use Prim.Native.Nat.{ℕ, _+_}
 use native.Mathlib.Omega.{arith}
-use lib.ListN.{length, drop}
+use lib.ListN.{drop}
 use Rattle.stream.proofs.Loop.{unread-is}
 use Rattle.listing.specs.Fill.{Lists}
 use Rattle.listing_io.proofs.Kept.{Kept, begin, not-listed, now-sound, again, leaves}

@@ -1,12 +1,9 @@
 -- `valid::is_valid` meets its contract: each return by a law of Decisions. Assumes nothing.
-use mathlib.Core.Path.{_≡_, sym, ap, _∙_}
-use mathlib.Core.Bool.{true}
+use mathlib.Core.Path.{sym, ap, _∙_}
 use Prim.Native.Nat.{ℕ, _+_}
 use borrow.Author.Tests.{not-true, not-false}
 use borrow.Author.Needs.{needs}
 use native.Mathlib.Omega.{arith}
-use lib.ListN.{length, getD}
-use Rattle.packets.specs.Listed.{listed}
 use Rattle.valid.proofs.Decisions.{too-short, too-long, unlisted, other-size, by-sum}
 use Rattle.valid.proofs.is_valid.Statement.{statement}
 use Rattle.valid.proofs.is_valid.Tie as tie
