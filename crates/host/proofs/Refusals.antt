@@ -1,16 +1,19 @@
 -- Every entry that refuses says the number of the one definition of refusals, and the low bytes of what that carries.
 -- Assumes nothing.
 use mathlib.Core.Path.{_≡_, refl, sym, ap, _∙_}
+use mathlib.Core.Bool.{true, false}
 use mathlib.Core.List.{List}
 use mathlib.Core.Logic.{⊎-elim}
-use Prim.Native.Nat.{ℕ, _%_, _≤_, _<_}
+use Prim.Native.Nat.{ℕ, _+_, _%_, _≤_, _<_}
 use native.Mathlib.Nat.{mod-eq-of-lt}
 use native.Mathlib.Omega.{arith}
 use lib.IntN.{ℤ}
+use lib.ListN.{length}
 use Rattle.base.proofs.Tests.{below}
+use Rattle.packets.specs.Listed.{listed}
 use Rattle.refusals.specs.Row.{rowOf}
 use Rattle.refusals.specs.declared.Refusal.{Refusal}
-use Rattle.refusals.specs.declared.Refusal.the-variants.{ChannelRange}
+use Rattle.refusals.specs.declared.Refusal.the-variants.{BufferOverflow, ChannelRange, BadAddress}
 use Rattle.writing.specs.Writing.{Image, writeOf}
 use Rattle.writing.specs.Writing as writing
 use Rattle.layout.specs.Decoded.{Decoded, refused}
@@ -21,7 +24,8 @@ use Rattle.series.specs.Series.{Kind, seriesRead}
 use Rattle.series.specs.declared.Series.{Series}
 use Rattle.series.specs.declared.Series.the-variants as series
 use Rattle.stream.specs.declared.step.Reply.the-variants.{Refused}
-use Rattle.frames.specs.Frames.{framed}
+use Rattle.frames.specs.Frames.{overhead, framed}
+use Rattle.frames.proofs.Laws.{address-first, record-second, room-last}
 use Rattle.host_state.specs.Saving.{heldRowOf, resetState, stateImage, restoreState}
 use Rattle.host_answer.specs.Answer.{packed, answerRow, answers}
 use Rattle.host_answer.specs.Reply.{answerReply, Calls}
@@ -77,6 +81,24 @@ module _ (r : Refusal) where
   pub series-refuses : {A : Type 0} (k : Kind A) (payload : List ℕ) (out : List A) → seriesRead k payload out .0 ≡ series.Refused r
       → unpacked 8 (givesSeries (seriesRead k payload out) .0) ≡ refusalBytes 0 r
   series-refuses k payload out e = ap (λ (s : Series). unpacked 8 (packed (answerSeries s))) e ∙ row-bytes r (sym (ap packed (row-refusal r))) refl
+
+-- ---- the order in which a writer refuses: the address, the record, the room; the buffer stays as it was
+
+module _ (dest kind : ℕ) (buffer : List ℕ) where
+  abbrev Refuses : Image → Refusal → Type 0
+  Refuses image r = (unpacked 8 (writes dest kind image buffer .0) ≡ refusalBytes 0 r) × (writes dest kind image buffer .1 ≡ buffer)
+
+  as-written : (image : Image) (r : Refusal) → writeOf (framed dest kind image) buffer ≡ (rowOf r, buffer) → Refuses image r
+  as-written image r e = (write-refuses r dest kind image buffer (ap (λ (x : List ℕ × List ℕ). x .0) e), ap (λ (x : List ℕ × List ℕ). x .1) e)
+
+  pub refuses-address : (image : Image) → listed dest ≡ false → Refuses image BadAddress
+  refuses-address image none = as-written image BadAddress (address-first dest kind buffer image none)
+
+  pub refuses-record : (r : Refusal) → listed dest ≡ true → Refuses (writing.refused r) r
+  refuses-record r address = as-written (writing.refused r) r (record-second dest kind buffer r address)
+
+  pub refuses-room : (payload : List ℕ) → listed dest ≡ true → length buffer < length payload + overhead → Refuses (writing.bytes payload) BufferOverflow
+  refuses-room payload address less = as-written (writing.bytes payload) BufferOverflow (room-last dest kind buffer payload address less)
 
 -- ---- what a byte has of a value
 

@@ -16,7 +16,7 @@ refuse-requires c κs = search needs
 
 returns : tie.Need-returns
 returns c =
-    let a = c .before .before .before .before .args in
+    let a = c .before .before .args in
     let all = a .values .now in
     ap (λ (r : ℕ). (r, a .out .now)) (c .refuse .ensures) ∙ given-none all (a .out .now) (inBytes (answerCount (length all))) (length all) refl (c .before .if1 .taken)
 
@@ -31,9 +31,9 @@ same-length c = search needs
 
 returns-2 : tie.Need-returns-2
 returns-2 c =
-    let call = c .before .before .before in
+    let call = c .before .before in
     let test = call .before .before in
-    let a = test .before .before .before .args in
+    let a = test .before .args in
     let all = a .values .now in
     ap₂ (λ (r : ℕ) (l : List ℤ). (r, l)) (c .count .ensures)
     (call .copy-i32 .ensures ∙ copied-all (a .out .now) all (test .if1 .left))
