@@ -261,7 +261,7 @@ Rpm, 0x0C, 19, read_rpm, write_rpm, {
 });
 
 series!(
-/// Temperatures of one source: at most 20 values.
+/// Temperatures of one source: 1 to 20 values.
 Temp, 0x0D, 20, read_temp, write_temp, {
     /// Where the values come from: 0 is the flight controller, 1 the air around it.
     temp_source_id,
@@ -270,7 +270,7 @@ Temp, 0x0D, 20, read_temp, write_temp, {
 });
 
 series!(
-/// Voltages of one source, as those of a battery's cells: at most 29 values.
+/// Voltages of one source, as those of a battery's cells: 1 to 29 values.
 Voltages, 0x0E, 29, read_voltages, write_voltages, {
     /// Where the values come from.
     voltage_source_id,
