@@ -78,10 +78,10 @@ module _ (payload out : List ℕ) {a : ReadAnswer} {x : RcChannelsPacked} (read 
 -- ---- Series
 
 -- as many values as a series may have, and so the count of those that it has, have a byte
-module _ {A : Type 0} (k : Kind A) (some : 0 < k .leastBytes) (few : k .most < 256) (payload : List ℕ) (out : List A) where
+module _ {A : Type 0} (k : Kind A) (few : k .most < 256) (payload : List ℕ) (out : List A) where
   fits : (s : Series) → seriesRead k payload out .0 ≡ s → inBytes (answerSeries s) ≡ answerSeries s
   fits (series.Values id n) e =
-      let small : n < 256 = omega (arith, in-values (k .width) (k .leastBytes) (k .most) payload (length out) some e) in
+      let small : n < 256 = omega (arith, in-values (k .width) (k .most) payload (length out) e) in
       rw (mod-eq-of-lt small)
   fits (series.Refused r) e = refl
 
@@ -92,9 +92,9 @@ module _ {A : Type 0} (k : Kind A) (some : 0 < k .leastBytes) (few : k .most < 2
 
 -- the eight bytes (RULES 14): of a series that is read, the fifth says how many values and the sixth is the source id
 pub series-bytes :
-    {A : Type 0} (k : Kind A) → 0 < k .leastBytes → k .most < 256 → (payload : List ℕ) (out : List A) {id n : ℕ} → id < 256
+    {A : Type 0} (k : Kind A) → k .most < 256 → (payload : List ℕ) (out : List A) {id n : ℕ} → id < 256
     → seriesRead k payload out .0 ≡ series.Values id n → unpacked 8 (givesSeries (seriesRead k payload out) .0) ≡ 0 ∷ 0 ∷ 0 ∷ 0 ∷ n ∷ id ∷ 0 ∷ 0 ∷ []
-series-bytes k some few payload out {id} {n} byte e =
+series-bytes k few payload out {id} {n} byte e =
     ap (λ (s : Series). unpacked 8 (packed (answerSeries s))) e
     ∙ unpack (answerSeries (series.Values id n))
     (record {
@@ -102,7 +102,7 @@ series-bytes k some few payload out {id} {n} byte e =
       taken = lit< tt;
       in-state = lit< tt;
       at = lit< tt;
-      len = omega (arith, in-values (k .width) (k .leastBytes) (k .most) payload (length out) some e);
+      len = omega (arith, in-values (k .width) (k .most) payload (length out) e);
       first = byte;
       second = lit< tt;
     })

@@ -40,7 +40,7 @@ use Rattle.series.specs.declared.rpm.Rpm.{Rpm}
 use Rattle.series.specs.declared.temp.Temp.{Temp}
 use Rattle.series.specs.declared.voltages.Voltages.{Voltages}
 use Rattle.series.proofs.Values.{Sound}
-use Rattle.series.proofs.WriteLaws.{image-bytes, image-size, new-some, new-size}
+use Rattle.series.proofs.WriteLaws.{image-bytes, image-size, new-image, new-size}
 use Rattle.series.proofs.SeriesLaws.{Whole, counted-read-written, made-read-written}
 use Rattle.series.proofs.SoundKinds.{rpm-sound, temp-sound, voltages-sound}
 use Rattle.channels.specs.Channels.{channelsType, channelBytes, channelsRead, channelsImage}
@@ -91,16 +91,15 @@ module _ (dest : ℕ) (address : listed dest ≡ true) where
       (sym (battery-read-written x h))
 
   -- a series comes back as `of` makes a record of it
-  module _ {A R : Type 0} (k : Kind A) {Fits : A → Type 0} (sound : Sound k Fits) (enough : k .leastBytes ≤ 1 + k .width) (least : k .leastValues ≤ 1)
-      (fits : 1 + k .most * k .width ≤ mostPayload) where
+  module _ {A R : Type 0} (k : Kind A) {Fits : A → Type 0} (sound : Sound k Fits) (fits : 1 + k .most * k .width ≤ mostPayload) where
     series-comes-back : (packetType : ℕ) (of : List ℕ × Counted A → List ℕ × R) (h : Counted A) → Whole k sound h
         → ComesBack (framed dest packetType (countedImage k h)) (λ payload. of (countedRead k payload)) (of (readRow answer.Record, h))
     series-comes-back packetType of h w =
         let p : List ℕ = seriesBytes k (h .id) (h .places) (h .count) in
-        let e = image-bytes k (h .id) (h .places) (h .count) (omega (arith, w .some)) (w .few) in
+        let e = image-bytes k (h .id) (h .places) (h .count) (w .some) (w .few) in
         let size = image-size k sound (h .id) (h .places) (h .count) p e in
         comes-back dest packetType address (countedImage k h) p e (omega arith) (λ payload. of (countedRead k payload)) (of (readRow answer.Record, h))
-        (ap of (counted-read-written k sound enough h p w e))
+        (ap of (counted-read-written k sound h p w e))
 
     -- and one newly made comes back as it was made
     new-series-comes-back : (packetType : ℕ) (of : List ℕ × Counted A → List ℕ × R) (id : ℕ) (vs : List A) → id < 256 → 1 ≤ length vs → length vs ≤ k .most
@@ -108,33 +107,33 @@ module _ (dest : ℕ) (address : listed dest ≡ true) where
         → ComesBack (framed dest packetType (newImage k id vs)) (λ payload. of (countedRead k payload)) (of (countedMade k id vs))
     new-series-comes-back packetType of id vs byte some few values =
         let p : List ℕ = seriesBytes k id vs (length vs) in
-        let e = new-some k id vs some ∙ image-bytes k id vs (length vs) (omega arith) few in
+        let e = new-image k id vs ∙ image-bytes k id vs (length vs) some few in
         let size = new-size k sound id vs p e in
         comes-back dest packetType address (newImage k id vs) p e (omega arith) (λ payload. of (countedRead k payload)) (of (countedMade k id vs))
-        (ap of (made-read-written k sound enough id vs p byte some few values e))
+        (ap of (made-read-written k sound id vs p byte some few values e))
 
   pub rpm-comes-back : (x : Rpm) → Whole rpmKind rpm-sound (rpmCounted x) → ComesBack (framed dest rpmType (rpmImage x)) rpmRead (readRow answer.Record, x)
-  rpm-comes-back x = series-comes-back rpmKind rpm-sound (lit≤ tt) (lit≤ tt) (lit≤ tt) rpmType rpmOf (rpmCounted x)
+  rpm-comes-back x = series-comes-back rpmKind rpm-sound (lit≤ tt) rpmType rpmOf (rpmCounted x)
 
   pub temp-comes-back : (x : Temp) → Whole tempKind temp-sound (tempCounted x) → ComesBack (framed dest tempType (tempImage x)) tempRead (readRow answer.Record, x)
-  temp-comes-back x = series-comes-back tempKind temp-sound (lit≤ tt) (lit≤ tt) (lit≤ tt) tempType tempOf (tempCounted x)
+  temp-comes-back x = series-comes-back tempKind temp-sound (lit≤ tt) tempType tempOf (tempCounted x)
 
   pub voltages-come-back : (x : Voltages) → Whole voltagesKind voltages-sound (voltagesCounted x)
       → ComesBack (framed dest voltagesType (voltagesImage x)) voltagesRead (readRow answer.Record, x)
-  voltages-come-back x = series-comes-back voltagesKind voltages-sound (lit≤ tt) (lit≤ tt) (lit≤ tt) voltagesType voltagesOf (voltagesCounted x)
+  voltages-come-back x = series-comes-back voltagesKind voltages-sound (lit≤ tt) voltagesType voltagesOf (voltagesCounted x)
 
   -- as a host writes them, straight from values
   pub rpm-values-come-back : (id : ℕ) (vs : List ℤ) → id < 256 → 1 ≤ length vs → length vs ≤ 19 → ((i : ℕ) → i < length vs → InRange 3 (getD vs i (pos 0)))
       → ComesBack (framed dest rpmType (newImage rpmKind id vs)) rpmRead (rpmMade id vs)
-  rpm-values-come-back = new-series-comes-back rpmKind rpm-sound (lit≤ tt) (lit≤ tt) (lit≤ tt) rpmType rpmOf
+  rpm-values-come-back = new-series-comes-back rpmKind rpm-sound (lit≤ tt) rpmType rpmOf
 
   pub temp-values-come-back : (id : ℕ) (vs : List ℤ) → id < 256 → 1 ≤ length vs → length vs ≤ 20 → ((i : ℕ) → i < length vs → InRange 2 (getD vs i (pos 0)))
       → ComesBack (framed dest tempType (newImage tempKind id vs)) tempRead (tempMade id vs)
-  temp-values-come-back = new-series-comes-back tempKind temp-sound (lit≤ tt) (lit≤ tt) (lit≤ tt) tempType tempOf
+  temp-values-come-back = new-series-comes-back tempKind temp-sound (lit≤ tt) tempType tempOf
 
   pub voltages-values-come-back : (id : ℕ) (vs : List ℕ) → id < 256 → 1 ≤ length vs → length vs ≤ 29 → ((i : ℕ) → i < length vs → getD vs i 0 < 256 ^ 2)
       → ComesBack (framed dest voltagesType (newImage voltagesKind id vs)) voltagesRead (voltagesMade id vs)
-  voltages-values-come-back = new-series-comes-back voltagesKind voltages-sound (lit≤ tt) (lit≤ tt) (lit≤ tt) voltagesType voltagesOf
+  voltages-values-come-back = new-series-comes-back voltagesKind voltages-sound (lit≤ tt) voltagesType voltagesOf
 
   pub channels-come-back : (x : RcChannelsPacked) → length (x .0) ≡ 16 → Below 11 (x .0)
       → ComesBack (framed dest channelsType (channelsImage x)) channelsRead (readRow answer.Record, x)

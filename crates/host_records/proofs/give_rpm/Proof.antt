@@ -19,7 +19,7 @@ returns : tie.Need-returns
 returns c =
     let read = c .before .before in
     let a = read .before .before .before .args in
-    series-given rpmKind (lit< tt) (lit< tt) (a .payload .now) (a .out .now) (read .read-values .ensures) (c .answer-series .ensures)
+    series-given rpmKind (lit< tt) (a .payload .now) (a .out .now) (read .read-values .ensures) (c .answer-series .ensures)
 
 pub give-rpm-spec : {M : Type 1} → statement M
 give-rpm-spec = tie.close (tie.spec read-values-requires answer-series-requires same-length returns)

@@ -19,7 +19,7 @@ returns : tie.Need-returns
 returns c =
     let read = c .before .before in
     let a = read .before .before .before .args in
-    series-given tempKind (lit< tt) (lit< tt) (a .payload .now) (a .out .now) (read .read-values .ensures) (c .answer-series .ensures)
+    series-given tempKind (lit< tt) (a .payload .now) (a .out .now) (read .read-values .ensures) (c .answer-series .ensures)
 
 pub give-temp-spec : {M : Type 1} → statement M
 give-temp-spec = tie.close (tie.spec read-values-requires answer-series-requires same-length returns)

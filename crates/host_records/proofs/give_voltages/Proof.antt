@@ -19,7 +19,7 @@ returns : tie.Need-returns
 returns c =
     let read = c .before .before .before in
     let a = read .before .before .before .before .args in
-    series-given voltagesKind (lit< tt) (lit< tt) (a .payload .now) (a .out .now) (read .read-values .ensures) (c .answer-series .ensures)
+    series-given voltagesKind (lit< tt) (a .payload .now) (a .out .now) (read .read-values .ensures) (c .answer-series .ensures)
 
 pub give-voltages-spec : {M : Type 1} → statement M
 give-voltages-spec = tie.close (tie.spec read-values-requires answer-series-requires same-length returns)
