@@ -1,6 +1,7 @@
 // Series at both sides of each edge: payloads that end in an unfinished value, and payloads with the least and the most that is read; counts of values
-// that are made and written; then values at the edges of their type.
+// that are made, and that are written into buffers with and without room; then values at the edges of their type.
 use crate::show::payload;
+use crate::show::spelled;
 use layout::ReadAnswer;
 use libc::STDOUT_FILENO;
 use series::rpm::Rpm;
@@ -55,23 +56,6 @@ fn made(answer: ReadAnswer, count: usize) {
         ReadAnswer::Record => {
             io::write_all(STDOUT_FILENO, b"made of ");
             io::print_decimal(STDOUT_FILENO, count as u64);
-            io::write_all(STDOUT_FILENO, b"\n");
-        }
-    }
-}
-
-// How many bytes a record of this count was written as, or the number of the refusal.
-fn counted(name: &[u8], count: usize, written: Written) {
-    named(name, count);
-    io::write_all(STDOUT_FILENO, b" counted: ");
-    match written {
-        Written::Refused(refusal) => {
-            let row = refusals::row_of(refusal);
-            refused(row.number);
-        }
-        Written::Wrote(n) => {
-            io::write_all(STDOUT_FILENO, b"bytes ");
-            io::print_decimal(STDOUT_FILENO, n as u64);
             io::write_all(STDOUT_FILENO, b"\n");
         }
     }
@@ -167,41 +151,125 @@ fn voltages_made(n: usize) {
     }
 }
 
-fn rpm_counted(count: usize) {
-    let mut buffer = [0u8; 64];
-    let record = Rpm {
+fn rpm_of(count: usize) -> Rpm {
+    Rpm {
         rpm_source_id: 1,
         rpm_values: [7i32; 19],
         count,
-    };
-    counted(b"rpm ", count, record.to_bytes(&mut buffer));
+    }
 }
 
-fn temp_counted(count: usize) {
-    let mut buffer = [0u8; 64];
-    let record = Temp {
+fn temp_of(count: usize) -> Temp {
+    Temp {
         temp_source_id: 1,
         temperatures: [7i16; 20],
         count,
-    };
-    counted(b"temp ", count, record.to_bytes(&mut buffer));
+    }
 }
 
-fn voltages_counted(count: usize) {
-    let mut buffer = [0u8; 64];
-    let record = Voltages {
+fn voltages_of(count: usize) -> Voltages {
+    Voltages {
         voltage_source_id: 1,
         voltage_values: [7u16; 29],
         count,
-    };
-    counted(b"voltages ", count, record.to_bytes(&mut buffer));
+    }
+}
+
+// How many bytes were written, or the number of the refusal; then what the buffer has.
+fn left(written: Written, buffer: &[u8]) {
+    match written {
+        Written::Refused(refusal) => {
+            let row = refusals::row_of(refusal);
+            io::write_all(STDOUT_FILENO, b": refused ");
+            io::print_decimal(STDOUT_FILENO, row.number as u64);
+        }
+        Written::Wrote(n) => {
+            io::write_all(STDOUT_FILENO, b": bytes ");
+            io::print_decimal(STDOUT_FILENO, n as u64);
+        }
+    }
+    io::write_all(STDOUT_FILENO, b", left ");
+    spelled(buffer);
+    io::write_all(STDOUT_FILENO, b"\n");
+}
+
+// A record of this count, written into the buffer.
+fn rpm_in(buffer: &mut [u8], count: usize) {
+    named(b"rpm ", count);
+    named(b" counted in ", buffer.len());
+    let record = rpm_of(count);
+    let written = record.to_bytes(buffer);
+    left(written, buffer);
+}
+
+fn temp_in(buffer: &mut [u8], count: usize) {
+    named(b"temp ", count);
+    named(b" counted in ", buffer.len());
+    let record = temp_of(count);
+    let written = record.to_bytes(buffer);
+    left(written, buffer);
+}
+
+fn voltages_in(buffer: &mut [u8], count: usize) {
+    named(b"voltages ", count);
+    named(b" counted in ", buffer.len());
+    let record = voltages_of(count);
+    let written = record.to_bytes(buffer);
+    left(written, buffer);
+}
+
+// And as a frame to this destination.
+fn rpm_framed_in(buffer: &mut [u8], count: usize, dest: u8) {
+    named(b"rpm ", count);
+    named(b" framed in ", buffer.len());
+    io::write_all(STDOUT_FILENO, b" to ");
+    io::print_hex(STDOUT_FILENO, dest as u64, 2);
+    let written = frames::write_rpm(buffer, dest, rpm_of(count));
+    left(written, buffer);
+}
+
+// What stands in a buffer before it is written.
+const BEFORE: u8 = 0xEE;
+
+fn rpm_counted(count: usize, room: usize) {
+    let mut buffer = [BEFORE; 70];
+    if room <= buffer.len() {
+        rpm_in(&mut buffer[0..room], count);
+    }
+}
+
+fn temp_counted(count: usize, room: usize) {
+    let mut buffer = [BEFORE; 70];
+    if room <= buffer.len() {
+        temp_in(&mut buffer[0..room], count);
+    }
+}
+
+fn voltages_counted(count: usize, room: usize) {
+    let mut buffer = [BEFORE; 70];
+    if room <= buffer.len() {
+        voltages_in(&mut buffer[0..room], count);
+    }
+}
+
+fn rpm_framed(count: usize, room: usize, dest: u8) {
+    let mut buffer = [BEFORE; 70];
+    if room <= buffer.len() {
+        rpm_framed_in(&mut buffer[0..room], count, dest);
+    }
 }
 
 fn payloads(bytes: &[u8]) {
+    rpm(bytes, 0);
+    rpm(bytes, 1);
     rpm(bytes, 2);
     rpm(bytes, 3);
     rpm(bytes, 4);
+    rpm(bytes, 5);
+    rpm(bytes, 6);
+    rpm(bytes, 7);
     rpm(bytes, 58);
+    rpm(bytes, 59);
     rpm(bytes, 60);
     rpm(bytes, 61);
     temp(bytes, 2);
@@ -231,18 +299,46 @@ fn counts() {
     voltages_made(1);
     voltages_made(29);
     voltages_made(30);
-    rpm_counted(0);
-    rpm_counted(1);
-    rpm_counted(19);
-    rpm_counted(20);
-    temp_counted(0);
-    temp_counted(1);
-    temp_counted(20);
-    temp_counted(21);
-    voltages_counted(0);
-    voltages_counted(1);
-    voltages_counted(29);
-    voltages_counted(30);
+}
+
+// No room, a byte too little and just enough.
+fn rooms() {
+    rpm_counted(0, 0);
+    rpm_counted(0, 1);
+    rpm_counted(1, 0);
+    rpm_counted(1, 3);
+    rpm_counted(1, 4);
+    rpm_counted(19, 0);
+    rpm_counted(19, 57);
+    rpm_counted(19, 58);
+    rpm_counted(20, 0);
+    rpm_counted(20, 60);
+    rpm_counted(20, 61);
+    temp_counted(0, 0);
+    temp_counted(0, 1);
+    temp_counted(1, 2);
+    temp_counted(1, 3);
+    temp_counted(20, 40);
+    temp_counted(20, 41);
+    temp_counted(21, 43);
+    voltages_counted(0, 0);
+    voltages_counted(0, 1);
+    voltages_counted(1, 2);
+    voltages_counted(1, 3);
+    voltages_counted(29, 58);
+    voltages_counted(29, 59);
+    voltages_counted(30, 61);
+}
+
+fn framed() {
+    rpm_framed(0, 0, 0xC9);
+    rpm_framed(0, 0, 0xC8);
+    rpm_framed(0, 4, 0xC8);
+    rpm_framed(0, 5, 0xC8);
+    rpm_framed(1, 7, 0xC8);
+    rpm_framed(1, 8, 0xC8);
+    rpm_framed(20, 0, 0xC8);
+    rpm_framed(20, 65, 0xC8);
 }
 
 fn values() {
@@ -264,5 +360,7 @@ pub fn cases() {
         b"abcdefghijklmnopqrstuvwxyz{|}~\x7F\x80\x81\x82\x83\x84\x85\x86\x87\x88\x89\x8A\x8B\x8C\x8D\x8E\x8F\x90\x91\x92\x93\x94\x95\x96\x97\x98\x99\x9A\x9B\x9C\x9D",
     );
     counts();
+    rooms();
+    framed();
     values();
 }
