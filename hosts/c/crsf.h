@@ -54,9 +54,9 @@
 
 /* The version of this header and of the archive, and nowhere else decided: CHANGELOG.md says what changed. */
 #define CRSF_VERSION_MAJOR 0
-#define CRSF_VERSION_MINOR 2
+#define CRSF_VERSION_MINOR 3
 #define CRSF_VERSION_PATCH 0
-#define CRSF_VERSION "0.2.0"
+#define CRSF_VERSION "0.3.0"
 
 #ifdef __cplusplus
 extern "C" {
@@ -272,9 +272,9 @@ crsf_answer crsf_read_gps(const uint8_t *payload, size_t payload_len, int32_t *o
 crsf_answer crsf_read_gps_extended(const uint8_t *payload, size_t payload_len, int32_t *out, size_t out_len);
 crsf_answer crsf_read_battery(const uint8_t *payload, size_t payload_len, int32_t *out, size_t out_len);
 crsf_answer crsf_read_baro_altitude(const uint8_t *payload, size_t payload_len, int32_t *out, size_t out_len);
-/* Of these three the values; first is the source id. Refusal 4 for a payload of fewer than 3 bytes, and for more values than the record has at
- * most, which is how many places of out are always enough. Left-over bytes of an unfinished value are ignored. RPM of 3 bytes has no value;
- * temperatures and voltages have one at least. */
+/* Of these three the values; first is the source id. Refusal 4 for a payload without a whole value, which is one of fewer than 4 bytes of RPM and
+ * than 3 of the others, and for more values than the record has at most, which is how many places of out are always enough. Left-over bytes of
+ * an unfinished value are ignored. */
 crsf_answer crsf_read_rpm(const uint8_t *payload, size_t payload_len, int32_t *out, size_t out_len);
 crsf_answer crsf_read_temp(const uint8_t *payload, size_t payload_len, int16_t *out, size_t out_len);
 crsf_answer crsf_read_voltages(const uint8_t *payload, size_t payload_len, uint16_t *out, size_t out_len);

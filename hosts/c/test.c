@@ -276,8 +276,9 @@ static void records(void)
     CHECK(memcmp(p, BYTES(7, 0xFF, 0xFF, 0xFF, 0x80, 0, 0, 0, 0, 5)) == 0);
     memset(got, 0x77, sizeof got);
     CHECK(is(crsf_read_rpm(p, 10, got, 3), CRSF_OK, 0, 0, 0, 3, 7, 0) && memcmp(got, values, 12) == 0 && got[3] == 0x77777777);
-    CHECK(is(crsf_read_rpm(p, 3, got, 0), CRSF_OK, 0, 0, 0, 0, 7, 0));
-    CHECK(refusal(crsf_read_rpm(p, 2, got, 20), CRSF_INVALID_PAYLOAD_LENGTH));
+    CHECK(is(crsf_read_rpm(p, 4, got, 1), CRSF_OK, 0, 0, 0, 1, 7, 0) && got[0] == -1);
+    CHECK(refusal(crsf_read_rpm(p, 3, got, 0), CRSF_INVALID_PAYLOAD_LENGTH));
+    CHECK(refusal(crsf_read_rpm(p, 3, got, 20), CRSF_INVALID_PAYLOAD_LENGTH));
     CHECK(refusal(crsf_read_rpm(p, 10, got, 2), CRSF_BUFFER_OVERFLOW));
     CHECK(count(crsf_write_rpm(b, sizeof b, 0xC8, 7, values, 19), 62));
     CHECK(refusal(crsf_write_rpm(b, sizeof b, 0xC8, 7, values, 20), CRSF_INVALID_PAYLOAD_LENGTH));
@@ -439,7 +440,7 @@ static void each_series(void)
     }
 }
 
-/* RPM in the same way: three bytes a value, signed, none where a payload has 3 bytes; new ones have 1 to 19. */
+/* RPM in the same way: three bytes a value, signed, 1 to 19 of them. */
 static void each_rpm(void)
 {
     uint8_t payload[70];
@@ -457,7 +458,7 @@ static void each_rpm(void)
                 memset(got, 0x77, sizeof got);
                 const crsf_answer a = crsf_read_rpm(payload, n, got, lent);
                 const size_t whole = n ? (n - 1) / 3 : 0;
-                if (n < 3 || whole > 19)
+                if (n < 4 || whole > 19)
                     CHECK(refusal(a, CRSF_INVALID_PAYLOAD_LENGTH));
                 else if (lent < whole)
                     CHECK(refusal(a, CRSF_BUFFER_OVERFLOW));
@@ -494,6 +495,12 @@ static void each_rpm(void)
                     CHECK(memcmp(got, want, sizeof want) == 0);
                 }
     }
+    CHECK(refusal(crsf_read_rpm(NULL, 0, NULL, 0), CRSF_INVALID_PAYLOAD_LENGTH));
+    CHECK(refusal(crsf_read_rpm(payload, 3, NULL, 0), CRSF_INVALID_PAYLOAD_LENGTH));
+    CHECK(refusal(crsf_read_rpm(payload, 4, NULL, 0), CRSF_BUFFER_OVERFLOW));
+    CHECK(refusal(crsf_write_rpm(NULL, 0, 0xC9, 7, NULL, 0), CRSF_BAD_ADDRESS));
+    CHECK(refusal(crsf_write_rpm(NULL, 0, 0xC8, 7, NULL, 0), CRSF_INVALID_PAYLOAD_LENGTH));
+    CHECK(refusal(crsf_write_rpm(NULL, 0, 0xC8, 7, values, 1), CRSF_BUFFER_OVERFLOW));
 }
 
 static void queries(void)

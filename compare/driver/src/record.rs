@@ -17,7 +17,7 @@
 //!
 //! r counts link statistics, channels, GPS, GPS extended, battery, altitude, RPM, temperatures, voltages from 0. Of the last three, written, a has the
 //! id as its first field and a value in each other one; read, the id stands in the answer and c has the values. Temperatures and voltages without a
-//! value are not written (`Record::is_left_out`).
+//! value are not written (`Record::is_left_out`), and RPM of 3 bytes is not read (`Record::is_left_out_read`).
 use crate::gen::{self, Rng, ADDRESSES, EDGES};
 use crate::ours::{self, Answer};
 use crate::queries::{self, CHECK};
@@ -168,7 +168,9 @@ pub fn sample(seed: u64) -> (Vec<u8>, usize) {
         for len in 0..=64 {
             let mut payload = vec![0; len];
             r.fill(&mut payload);
-            read(&mut pages, i, record, &payload);
+            if !record.is_left_out_read(&payload) {
+                read(&mut pages, i, record, &payload);
+            }
         }
         for len in 0..=70 {
             let fields = record.random_fields(&mut r);

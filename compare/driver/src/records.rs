@@ -253,13 +253,38 @@ impl Record {
     }
 
     /// What is not compared when written: temperatures and voltages without a value, an id alone. The Rust makes and writes them, ours refuses them
-    /// with 4 (docs/DIFFERENCES.md). RPM without a value is refused by both.
+    /// with 4 (docs/DIFFERENCES.md). A new RPM record without a value is refused by both.
     pub fn is_left_out(&self, fields: &[i64]) -> bool {
         self.is_series() && self.name != "RPM" && fields.len() == 1
     }
 
+    /// What is not compared when read: RPM of 3 bytes. The Rust reads a record without a value, ours refuses them with 4 (docs/DIFFERENCES.md).
+    pub fn is_left_out_read(&self, payload: &[u8]) -> bool {
+        self.name == "RPM" && payload.len() == 3
+    }
+
+    /// What the Rust writes of a series without a value, of this id: of RPM it makes no such record, but reads one from 3 bytes.
+    fn write_rust_empty(&self, id: u8, dest: PacketAddress, buffer: &mut [u8]) -> RustAnswer {
+        match self.name {
+            "RPM" => write_packet_to_buffer(buffer, dest, &Rpm::from_bytes(&[id, 0, 0])?),
+            _ => (self.write_rust)(&[i64::from(id)], dest, buffer),
+        }
+    }
+
     /// What both sides write of these fields into a buffer of that many bytes, amid others. None where all agree.
     fn write_differs(&self, fields: &[i64], dest: u8, len: usize, fill: u8) -> Option<String> {
+        self.write_differs_from(|address, buffer| (self.write_rust)(fields, address, buffer), fields, dest, len, fill)
+    }
+
+    /// The same, of what `write_rust` has the Rust write.
+    fn write_differs_from(
+        &self,
+        write_rust: impl FnOnce(PacketAddress, &mut [u8]) -> RustAnswer,
+        fields: &[i64],
+        dest: u8,
+        len: usize,
+        fill: u8,
+    ) -> Option<String> {
         let mut rust = [fill; 80];
         for (i, b) in rust.iter_mut().enumerate() {
             *b = b.wrapping_add((i * 37) as u8);
@@ -269,7 +294,7 @@ impl Record {
         // The Rust's caller can't name an unlisted address: its own conversion refuses it.
         let expected = match PacketAddress::try_from(dest) {
             Err(_) => Answer::refusal(ours::BAD_ADDRESS),
-            Ok(address) => match (self.write_rust)(fields, address, &mut rust[lent.clone()]) {
+            Ok(address) => match write_rust(address, &mut rust[lent.clone()]) {
                 Ok(written) => Answer::wrote(written),
                 Err(refusal) => Answer::refusal(number_of(refusal)),
             },
@@ -341,7 +366,11 @@ fn edges(lo: i64, hi: i64) -> Vec<i64> {
 fn smallest_payload(record: &Record, payload: &[u8]) -> String {
     let mut p = payload.to_vec();
     let mut scratch = vec![];
-    while !p.is_empty() && record.read_differs(&p[..p.len() - 1], &mut scratch).is_some() {
+    while !p.is_empty() {
+        let fewer = &p[..p.len() - 1];
+        if record.is_left_out_read(fewer) || record.read_differs(fewer, &mut scratch).is_none() {
+            break;
+        }
         p.pop();
     }
     for i in 0..p.len() {
@@ -390,6 +419,9 @@ impl Records<'_> {
         }
     }
     fn read(&mut self, record: &Record, payload: &[u8]) {
+        if record.is_left_out_read(payload) {
+            return;
+        }
         self.family.compared(1);
         if record.read_differs(payload, &mut self.scratch).is_some() {
             self.family.differs(|| smallest_payload(record, payload));
@@ -489,8 +521,8 @@ pub fn compare(report: &mut Report, seed: u64, random: u64) {
     beyond(report);
 }
 
-/// What the Rust's own types rule out or get wrong, and the rules decide: channels above 2047 and series without a value (RULES 10), too few places to
-/// read into (RULES 14).
+/// What the Rust's own types rule out or get wrong, and the rules decide: channels above 2047, series without a value, written or read (RULES 10), too
+/// few places to read into (RULES 14).
 fn beyond(report: &mut Report) {
     let spills = report.lists("channel 0 set to 2048, the others 0");
     report.family("channels above 2047: the Rust lets them spill, ours refuses", |family| {
@@ -515,17 +547,20 @@ fn beyond(report: &mut Report) {
             }
         }
     });
-    let empty = report.lists("`Temp::new(0, &[])`, and the same of `Voltages`: no value");
-    report.family("temperatures, voltages without a value: the Rust writes them", |family| {
-        for record in RECORDS.iter().filter(|record| record.is_left_out(&[0])) {
+    let rpm_empty = report.lists("an RPM record without a value, as the Rust reads it from 00 00 00, written");
+    let new_empty = report.lists("`Temp::new(0, &[])`, and the same of `Voltages`: no value");
+    report.family("series without a value, written: the Rust writes the id", |family| {
+        for record in RECORDS.iter().filter(|record| record.is_series()) {
+            let listed = if record.name == "RPM" { rpm_empty } else { new_empty };
             for (dest, len) in (0..=255).flat_map(|dest| (0..=70).map(move |len| (dest, len))) {
                 let mut buffer = [0x5A; 70];
                 let got = (record.write_ours)(&[0], dest, &mut buffer[..len]);
                 let number = if ADDRESSES.contains(&dest) { ours::INVALID_PAYLOAD_LENGTH } else { ours::BAD_ADDRESS };
                 let input = || format!("{} without a value to {dest:02X} in {len} bytes, by RULES 10", record.name);
                 family.same((Answer::refusal(number), [0x5A; 70]), (got, buffer), input);
-                if let Some(told) = record.write_differs(&[0], dest, len, 0x5A) {
-                    if empty {
+                let rust = |address, buffer: &mut [u8]| record.write_rust_empty(0, address, buffer);
+                if let Some(told) = record.write_differs_from(rust, &[0], dest, len, 0x5A) {
+                    if listed {
                         family.differs_as_listed();
                     } else {
                         family.differs(|| told);
@@ -533,18 +568,52 @@ fn beyond(report: &mut Report) {
                 }
             }
             // What is listed of the Rust: it writes the id alone.
-            let mut frame = [0; 5];
-            let written = (record.write_rust)(&[0], PacketAddress::FlightController, &mut frame).ok();
-            let kind = if record.name == "temperatures" { 0x0D } else { 0x0E };
-            family.same((Some(5), [0xC8, 3, kind, 0]), (written, [frame[0], frame[1], frame[2], frame[3]]), || {
-                format!("the Rust's own {} without a value", record.name)
-            });
+            for id in 0..=255 {
+                let mut frame = [0; 5];
+                let written = record.write_rust_empty(id, PacketAddress::FlightController, &mut frame).ok();
+                let kind = match record.name {
+                    "RPM" => 0x0C,
+                    "temperatures" => 0x0D,
+                    _ => 0x0E,
+                };
+                family.same((Some(5), [0xC8, 3, kind, id]), (written, [frame[0], frame[1], frame[2], frame[3]]), || {
+                    format!("the Rust's own {} without a value", record.name)
+                });
+            }
+        }
+    });
+    let three = report.lists("00 00 00 read as RPM");
+    report.family("RPM of 3 bytes, read: the Rust reads no value", |family| {
+        let record = &RECORDS[6];
+        let mut scratch = vec![];
+        for (id, rest) in (0..=255).flat_map(|id| [[0, 0], [0, 1], [0x7F, 0xFF], [0x80, 0], [0xFF, 0xFF]].map(|rest| (id, rest))) {
+            let payload = [id, rest[0], rest[1]];
+            for lent in 0..=PLACES {
+                let mut out = Out::new(lent);
+                let got = (record.read_ours)(&payload, &mut out);
+                let input = || format!("RPM {} into {lent} places, by RULES 10", hex(&payload));
+                family.same((Answer::refusal(ours::INVALID_PAYLOAD_LENGTH), [UNTOUCHED; PLACES]), (got, out.places), input);
+            }
+            if let Some(told) = record.read_differs(&payload, &mut scratch) {
+                if three {
+                    family.differs_as_listed();
+                } else {
+                    family.differs(|| told);
+                }
+            }
+            // What is listed of the Rust: it reads the id alone.
+            let mut fields = vec![];
+            let read = (record.read_rust)(&payload, &mut fields).is_ok();
+            family.same((true, vec![i64::from(id)]), (read, fields), || format!("the Rust's own RPM {}", hex(&payload)));
         }
     });
     report.family("places to read into, 0 to 34: by RULES 14 alone", |family| {
         for record in &RECORDS {
             for (lent, len) in (0..=PLACES).flat_map(|lent| (0..=64).map(move |len| (lent, len))) {
                 let payload: Vec<u8> = (0..len).map(|i| (i * 29 + 131) as u8).collect();
+                if record.is_left_out_read(&payload) {
+                    continue;
+                }
                 let mut fields = vec![];
                 let read = (record.read_rust)(&payload, &mut fields);
                 let first = if record.is_series() && read.is_ok() { fields.remove(0) as u8 } else { 0 };

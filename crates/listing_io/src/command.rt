@@ -137,7 +137,7 @@ fn of_word(word: &[u8]) -> u8
         return after_print(print_help());
     }
     if is_word(word, b"--version") {
-        return after_print(write_text(b"list 0.2.0\n"));
+        return after_print(write_text(b"list 0.3.0\n"));
     }
     if is_option(word) {
         return refuse_option(word);

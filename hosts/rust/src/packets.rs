@@ -243,7 +243,6 @@ macro_rules! series {
                 Ok($record { $id: answer.first, values, count })
             }
 
-            /// A record without values, as RPM is read from 3 bytes, is refused.
             fn write_packet_to_buffer(&self, buffer: &mut [u8], dest: u8) -> Result<usize, CrsfParsingError> {
                 counted(entry::$write(buffer, dest, self.$id, self.$values()))
             }
@@ -252,11 +251,11 @@ macro_rules! series {
 }
 
 series!(
-/// Revolutions per minute of motors or propellers: at most 19 values, negative in reverse. The low 24 bits of each are written.
+/// Revolutions per minute of motors or propellers: 1 to 19 values, negative in reverse. The low 24 bits of each are written.
 Rpm, 0x0C, 19, read_rpm, write_rpm, {
     /// Where the values come from: 0 is the first motor, 1 the second.
     rpm_source_id,
-    /// The values; a record that was read may have none.
+    /// The values.
     rpm_values: i32,
 });
 

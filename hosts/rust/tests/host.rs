@@ -233,11 +233,11 @@ fn refusals_in_their_order() {
     assert_eq!(packet.write_packet_to_buffer(&mut buffer[..3], 0xC8), Err(CrsfParsingError::ChannelRange(9)));
     assert_eq!(Rpm::new(0, &[]), Err(CrsfParsingError::InvalidPayloadLength));
     assert_eq!(Rpm::new(0, &[0; 20]), Err(CrsfParsingError::InvalidPayloadLength));
-    assert_eq!(Rpm::from_bytes(&[7, 1]), Err(CrsfParsingError::InvalidPayloadLength));
-    let none = Rpm::from_bytes(&[7, 1, 2]).unwrap();
-    assert_eq!((none.rpm_source_id, none.rpm_values()), (7, &[][..]));
-    assert_eq!(none.write_packet_to_buffer(&mut buffer, 0xC9), Err(CrsfParsingError::BadAddress));
-    assert_eq!(none.write_packet_to_buffer(&mut buffer[..0], 0xC8), Err(CrsfParsingError::InvalidPayloadLength));
+    assert_eq!(Rpm::from_bytes(&[7, 1, 2]), Err(CrsfParsingError::InvalidPayloadLength));
+    let one = Rpm::from_bytes(&[7, 1, 2, 3]).unwrap();
+    assert_eq!((one.rpm_source_id, one.rpm_values()), (7, &[0x010203][..]));
+    assert_eq!(one.write_packet_to_buffer(&mut buffer[..0], 0xC9), Err(CrsfParsingError::BadAddress));
+    assert_eq!(one.write_packet_to_buffer(&mut buffer[..7], 0xC8), Err(CrsfParsingError::BufferOverflow));
     assert_eq!(Gps::from_bytes(&[0; 14]), Err(CrsfParsingError::InvalidPayloadLength));
     assert_eq!(Battery::from_bytes(&[0; 7]), Err(CrsfParsingError::InvalidPayloadLength));
     assert!(Gps::from_bytes(&[0; 40]).is_ok());
@@ -249,7 +249,7 @@ fn rpm_read() {
         for seed in 0..20 {
             let payload = noise(len, seed);
             let rpm = Rpm::from_bytes(&payload).map(|rpm| (rpm.rpm_source_id, rpm.rpm_values().to_vec()));
-            let expected = if len < 3 || 19 < (len - 1) / 3 {
+            let expected = if len < 4 || 19 < (len - 1) / 3 {
                 Err(CrsfParsingError::InvalidPayloadLength)
             } else {
                 Ok((payload[0], payload[1..].chunks_exact(3).map(|b| i32::from_be_bytes([b[0], b[1], b[2], 0]) >> 8).collect()))
