@@ -484,8 +484,6 @@ fn record_row_of_each_kind(rows: &mut Rows) {
         |r, o| o[..r.rpm_values().len()].copy_from_slice(r.rpm_values()),
         Entries::read_rpm, |e: &Entries, b: &mut [u8], dest, r: &Rpm| e.write_rpm(b, dest, r.rpm_source_id, r.rpm_values())
     );
-    // The entries of these two are marked `new`.
-    rows.archives = vec![&ours::NOW];
     record_rows!(
         rows, "temperatures of 4 values", Temp, &RECORDS[7], temp_of, i16, 20,
         |r, o| o[..r.temperatures().len()].copy_from_slice(r.temperatures()),
@@ -496,7 +494,6 @@ fn record_row_of_each_kind(rows: &mut Rows) {
         |r, o| o[..r.voltage_values().len()].copy_from_slice(r.voltage_values()),
         Entries::read_voltages, |e: &Entries, b: &mut [u8], dest, r: &Voltages| e.write_voltages(b, dest, r.voltage_source_id, r.voltage_values())
     );
-    rows.archives = archives();
 }
 
 /// One run: a line for each row.

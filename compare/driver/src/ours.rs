@@ -65,8 +65,8 @@ pub fn kept<T: Copy>(place: &T) -> T {
     *hidden(place)
 }
 
-/// Declares the entries of both archives and a table of pointers to each. An earlier archive may lack those marked `new`: libhost.a's stand in its
-/// table for them, and no row times them as the earlier one's.
+/// Declares the entries of both archives and a table of pointers to each. An earlier archive may lack those marked `new`, of which
+/// there are none now: libhost.a's stand in its table for them, and no row times them as the earlier one's.
 macro_rules! entries {
     (
         $(fn $name:ident($($place:ident: $kind:ty),* $(,)?) -> $answer:ty;)*
@@ -135,6 +135,8 @@ entries! {
     fn crsf_write_battery(b: *mut u8, n: usize, dest: u8, voltage: i16, current: i16, capacity_used: u32, remaining: u8, id: u8) -> Answer;
     fn crsf_write_baro_altitude(b: *mut u8, n: usize, dest: u8, altitude_packed: u16, vertical_speed_packed: i8) -> Answer;
     fn crsf_write_rpm(b: *mut u8, n: usize, dest: u8, rpm_source_id: u8, values: *const i32, count: usize) -> Answer;
+    fn crsf_write_temp(b: *mut u8, n: usize, dest: u8, temp_source_id: u8, temperatures: *const i16, count: usize) -> Answer;
+    fn crsf_write_voltages(b: *mut u8, n: usize, dest: u8, voltage_source_id: u8, values: *const u16, count: usize) -> Answer;
     fn crsf_read_link_statistics(p: *const u8, n: usize, out: *mut i32, out_len: usize) -> Answer;
     fn crsf_read_rc_channels_packed(p: *const u8, n: usize, out: *mut u16, out_len: usize) -> Answer;
     fn crsf_read_gps(p: *const u8, n: usize, out: *mut i32, out_len: usize) -> Answer;
@@ -142,13 +144,11 @@ entries! {
     fn crsf_read_battery(p: *const u8, n: usize, out: *mut i32, out_len: usize) -> Answer;
     fn crsf_read_baro_altitude(p: *const u8, n: usize, out: *mut i32, out_len: usize) -> Answer;
     fn crsf_read_rpm(p: *const u8, n: usize, out: *mut i32, out_len: usize) -> Answer;
+    fn crsf_read_temp(p: *const u8, n: usize, out: *mut i16, out_len: usize) -> Answer;
+    fn crsf_read_voltages(p: *const u8, n: usize, out: *mut u16, out_len: usize) -> Answer;
     fn crsf_pack_altitude(decimetres: i32) -> u16;
     fn crsf_baro_decimetres(packed: u16) -> i32;
     fn crsf_gps_metres(raw: u16) -> i32;
-    new fn crsf_write_temp(b: *mut u8, n: usize, dest: u8, temp_source_id: u8, temperatures: *const i16, count: usize) -> Answer;
-    new fn crsf_write_voltages(b: *mut u8, n: usize, dest: u8, voltage_source_id: u8, values: *const u16, count: usize) -> Answer;
-    new fn crsf_read_temp(p: *const u8, n: usize, out: *mut i16, out_len: usize) -> Answer;
-    new fn crsf_read_voltages(p: *const u8, n: usize, out: *mut u16, out_len: usize) -> Answer;
 }
 
 /// A safe function for each entry: a method by the table's pointer, and a function that calls libhost.a's.
