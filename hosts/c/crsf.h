@@ -272,9 +272,9 @@ crsf_answer crsf_read_gps(const uint8_t *payload, size_t payload_len, int32_t *o
 crsf_answer crsf_read_gps_extended(const uint8_t *payload, size_t payload_len, int32_t *out, size_t out_len);
 crsf_answer crsf_read_battery(const uint8_t *payload, size_t payload_len, int32_t *out, size_t out_len);
 crsf_answer crsf_read_baro_altitude(const uint8_t *payload, size_t payload_len, int32_t *out, size_t out_len);
-/* Of these three the values; first is the source id. Refusal 4 for a payload without a whole value, which is one of fewer than 4 bytes of RPM and
- * than 3 of the others, and for more values than the record has at most, which is how many places of out are always enough. Left-over bytes of
- * an unfinished value are ignored. */
+/* Of these three the values; first is the source id. Refusal 4 for a payload without a whole value (of RPM fewer than 4 bytes, of the others
+ * fewer than 3), and for more values than the record has at most; so many places of out are always enough. Left-over bytes of an unfinished
+ * value are ignored. */
 crsf_answer crsf_read_rpm(const uint8_t *payload, size_t payload_len, int32_t *out, size_t out_len);
 crsf_answer crsf_read_temp(const uint8_t *payload, size_t payload_len, int16_t *out, size_t out_len);
 crsf_answer crsf_read_voltages(const uint8_t *payload, size_t payload_len, uint16_t *out, size_t out_len);

@@ -440,10 +440,10 @@ static void each_series(void)
     }
 }
 
-/* RPM in the same way: three bytes a value, signed, 1 to 19 of them. */
+/* RPM in the same way: three bytes a value, signed, 1 to 19 of them. Every payload of 0 to 1000 bytes. */
 static void each_rpm(void)
 {
-    uint8_t payload[70];
+    uint8_t payload[SERIES_PAYLOAD];
     int32_t values[26];
     const int32_t extremes[] = {0, 1, -1, 255, 256, 65535, 65536, 8388607, -8388608, 8388608, -8388609, 2147483647, -2147483647 - 1};
     for (unsigned shift = 0; shift < 13; shift++) {
@@ -495,6 +495,17 @@ static void each_rpm(void)
                     CHECK(memcmp(got, want, sizeof want) == 0);
                 }
     }
+    /* counts whose low byte is a good one */
+    static const int32_t many[600];
+    for (size_t n = 200; n <= 600; n++)
+        for (size_t lent = 0; lent <= 70; lent += 35) {
+            uint8_t got[70];
+            memset(got, 0xAA, sizeof got);
+            CHECK(refusal(crsf_write_rpm(got, lent, 0xC8, 7, many, n), CRSF_INVALID_PAYLOAD_LENGTH));
+            CHECK(refusal(crsf_write_rpm(got, lent, 0xC9, 7, many, n), CRSF_BAD_ADDRESS));
+            for (size_t i = 0; i < sizeof got; i++)
+                CHECK(got[i] == 0xAA);
+        }
     CHECK(refusal(crsf_read_rpm(NULL, 0, NULL, 0), CRSF_INVALID_PAYLOAD_LENGTH));
     CHECK(refusal(crsf_read_rpm(payload, 3, NULL, 0), CRSF_INVALID_PAYLOAD_LENGTH));
     CHECK(refusal(crsf_read_rpm(payload, 4, NULL, 0), CRSF_BUFFER_OVERFLOW));

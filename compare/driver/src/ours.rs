@@ -65,8 +65,8 @@ pub fn kept<T: Copy>(place: &T) -> T {
     *hidden(place)
 }
 
-/// Declares the entries of both archives and a table of pointers to each. An earlier archive may lack those marked `new`, of which
-/// there are none now: libhost.a's stand in its table for them, and no row times them as the earlier one's.
+/// Declares the entries of both archives and a table of pointers to each. An earlier archive may lack those marked `new` (none is now):
+/// libhost.a's stand in its table for them, and whoever marks one times its rows with `Rows::archives` set to libhost.a alone.
 macro_rules! entries {
     (
         $(fn $name:ident($($place:ident: $kind:ty),* $(,)?) -> $answer:ty;)*

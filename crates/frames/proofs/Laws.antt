@@ -8,13 +8,15 @@ use native.Mathlib.Omega.{arith}
 use lib.ListN.{length}
 use Rattle.refusals.specs.Row.{rowOf}
 use Rattle.refusals.specs.declared.Refusal.{Refusal}
-use Rattle.refusals.specs.declared.Refusal.the-variants.{BufferOverflow, BadAddress}
+use Rattle.refusals.specs.declared.Refusal.the-variants.{InvalidPayloadLength, BufferOverflow, BadAddress}
 use Rattle.writing.specs.Writing.{Image, bytes, refused, writtenRow, writeOf}
 use Rattle.writing.proofs.Writing.{refuses}
 use Rattle.packets.specs.Listed.{listed}
 use Rattle.reading.specs.Answer.{Frame}
 use Rattle.reading.specs.Reading.{limit, reading, _⊕_}
 use Rattle.reading.specs.Frame.{frame, Valid}
+use Rattle.series.specs.Series.{Kind, seriesImage}
+use Rattle.series.proofs.WriteLaws.{image-none}
 use Rattle.frames.specs.Frames.{overhead, mostPayload, framed, framedBody}
 use Rattle.reading.proofs.Tests.{good-length}
 use Rattle.reading.proofs.Frame.{frame-valid, frames-read}
@@ -41,6 +43,12 @@ module _ (dest kind : ℕ) (b : List ℕ) where
   pub record-second : (r : Refusal) → listed dest ≡ true → writeOf (framed dest kind (refused r)) b ≡ (rowOf r, b)
   unfolding framed framedBody writtenRow
   record-second r address = rw address (sym (refuses r b))
+
+  -- so a series without a value is refused with 4, in any buffer
+  pub none-second : {A : Type 0} (k : Kind A) (id : ℕ) (vs : List A) (n : ℕ) → n < 1 → listed dest ≡ true
+      → writeOf (framed dest kind (seriesImage k id vs n)) b ≡ (rowOf InvalidPayloadLength, b)
+  none-second k id vs n none address =
+      ap (λ (image : Image). writeOf (framed dest kind image) b) (image-none k id vs n none) ∙ record-second InvalidPayloadLength address
 
   pub room-last : (payload : List ℕ) → listed dest ≡ true → length b < length payload + overhead
       → writeOf (framed dest kind (bytes payload)) b ≡ (rowOf BufferOverflow, b)

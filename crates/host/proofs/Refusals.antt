@@ -2,30 +2,33 @@
 -- Assumes nothing.
 use mathlib.Core.Path.{_≡_, refl, sym, ap, _∙_}
 use mathlib.Core.Bool.{true, false}
-use mathlib.Core.List.{List}
+use mathlib.Core.List.{List, []}
 use mathlib.Core.Logic.{⊎-elim}
 use Prim.Native.Nat.{ℕ, _+_, _%_, _≤_, _<_}
 use native.Mathlib.Nat.{mod-eq-of-lt}
 use native.Mathlib.Omega.{arith}
+use lib.Dec.{lit<}
 use lib.IntN.{ℤ}
 use lib.ListN.{length}
 use Rattle.base.proofs.Tests.{below}
 use Rattle.packets.specs.Listed.{listed}
 use Rattle.refusals.specs.Row.{rowOf}
 use Rattle.refusals.specs.declared.Refusal.{Refusal}
-use Rattle.refusals.specs.declared.Refusal.the-variants.{BufferOverflow, ChannelRange, BadAddress}
+use Rattle.refusals.specs.declared.Refusal.the-variants.{InvalidPayloadLength, BufferOverflow, ChannelRange, BadAddress}
 use Rattle.writing.specs.Writing.{Image, writeOf}
 use Rattle.writing.specs.Writing as writing
 use Rattle.layout.specs.Decoded.{Decoded, refused}
 use Rattle.channels.specs.Channels.{firstAbove, channelsImage}
 use Rattle.channels.specs.declared.RcChannelsPacked.{RcChannelsPacked}
 use Rattle.channels.proofs.Laws.{image-refused, image-bytes}
-use Rattle.series.specs.Series.{Kind, seriesRead}
+use Rattle.series.specs.Series.{Kind, seriesRead, newImage}
 use Rattle.series.specs.declared.Series.{Series}
 use Rattle.series.specs.declared.Series.the-variants as series
+use Rattle.series.proofs.ReadLaws.{read-too-short}
+use Rattle.series.proofs.WriteLaws.{new-image}
 use Rattle.stream.specs.declared.step.Reply.the-variants.{Refused}
 use Rattle.frames.specs.Frames.{overhead, framed}
-use Rattle.frames.proofs.Laws.{address-first, record-second, room-last}
+use Rattle.frames.proofs.Laws.{address-first, record-second, none-second, room-last}
 use Rattle.host_state.specs.Saving.{heldRowOf, resetState, stateImage, restoreState}
 use Rattle.host_answer.specs.Answer.{packed, answerRow, answers}
 use Rattle.host_answer.specs.Reply.{answerReply, Calls}
@@ -82,6 +85,16 @@ module _ (r : Refusal) where
       → unpacked 8 (givesSeries (seriesRead k payload out) .0) ≡ refusalBytes 0 r
   series-refuses k payload out e = ap (λ (s : Series). unpacked 8 (packed (answerSeries s))) e ∙ row-bytes r (sym (ap packed (row-refusal r))) refl
 
+-- ---- a series without a whole value is refused with 4, into any slice; and the slice stays as it was
+
+pub short-refuses :
+    {A : Type 0} (k : Kind A) (payload : List ℕ) (out : List A) → 0 < k .width → length payload ≤ k .width
+    → (unpacked 8 (givesSeries (seriesRead k payload out) .0) ≡ refusalBytes 0 InvalidPayloadLength)
+    × (givesSeries (seriesRead k payload out) .1 ≡ out)
+short-refuses {A} k payload out wide short =
+    let said = read-too-short k payload out wide short in
+    (series-refuses InvalidPayloadLength k payload out (ap (λ (x : Series × List A). x .0) said), ap (λ (x : Series × List A). x .1) said)
+
 -- ---- the order in which a writer refuses: the address, the record, the room; the buffer stays as it was
 
 module _ (dest kind : ℕ) (buffer : List ℕ) where
@@ -96,6 +109,12 @@ module _ (dest kind : ℕ) (buffer : List ℕ) where
 
   pub refuses-record : (r : Refusal) → listed dest ≡ true → Refuses (writing.refused r) r
   refuses-record r address = as-written (writing.refused r) r (record-second dest kind buffer r address)
+
+  -- a series of no values, in any buffer
+  pub refuses-none : {A : Type 0} (k : Kind A) (id : ℕ) → listed dest ≡ true → Refuses (newImage k id []) InvalidPayloadLength
+  refuses-none k id address =
+      as-written (newImage k id []) InvalidPayloadLength
+      (ap (λ (image : Image). writeOf (framed dest kind image) buffer) (new-image k id []) ∙ none-second dest kind buffer k id [] 0 (lit< tt) address)
 
   pub refuses-room : (payload : List ℕ) → listed dest ≡ true → length buffer < length payload + overhead → Refuses (writing.bytes payload) BufferOverflow
   refuses-room payload address less = as-written (writing.bytes payload) BufferOverflow (room-last dest kind buffer payload address less)

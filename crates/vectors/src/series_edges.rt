@@ -335,10 +335,22 @@ fn framed() {
     rpm_framed(0, 0, 0xC8);
     rpm_framed(0, 4, 0xC8);
     rpm_framed(0, 5, 0xC8);
+    rpm_framed(1, 0, 0xC8);
     rpm_framed(1, 7, 0xC8);
     rpm_framed(1, 8, 0xC8);
+    rpm_framed(19, 0, 0xC8);
+    rpm_framed(19, 61, 0xC8);
+    rpm_framed(19, 62, 0xC8);
     rpm_framed(20, 0, 0xC8);
+    rpm_framed(20, 64, 0xC8);
     rpm_framed(20, 65, 0xC8);
+}
+
+fn minimums() {
+    named(b"minimum of rpm ", Rpm::MIN_PAYLOAD_SIZE);
+    named(b", of temp ", Temp::MIN_PAYLOAD_SIZE);
+    named(b", of voltages ", Voltages::MIN_PAYLOAD_SIZE);
+    io::write_all(STDOUT_FILENO, b"\n");
 }
 
 fn values() {
@@ -356,6 +368,7 @@ fn values() {
 
 // 61 bytes, each one more than the one before it: a value from another place would show.
 pub fn cases() {
+    minimums();
     payloads(
         b"abcdefghijklmnopqrstuvwxyz{|}~\x7F\x80\x81\x82\x83\x84\x85\x86\x87\x88\x89\x8A\x8B\x8C\x8D\x8E\x8F\x90\x91\x92\x93\x94\x95\x96\x97\x98\x99\x9A\x9B\x9C\x9D",
     );

@@ -7,8 +7,8 @@ pub trait CrsfPacket: Sized {
     /// The type of a frame that carries the record.
     const PACKET_TYPE: u8;
 
-    /// The record of a payload. Bytes behind the record are ignored; of a series those of an unfinished value, and more values than it has at most are
-    /// refused.
+    /// The record of a payload. Bytes behind the record are ignored; of a series those of an unfinished value. A series without a whole value, or with
+    /// more than it has at most, is refused.
     fn from_bytes(payload: &[u8]) -> Result<Self, CrsfParsingError>;
 
     /// The record as a whole frame at the front of `buffer`; the count of its bytes, at most 64. A refusal writes nothing.

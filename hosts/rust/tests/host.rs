@@ -245,7 +245,7 @@ fn refusals_in_their_order() {
 
 #[test]
 fn rpm_read() {
-    for len in (0..=64).chain([65, 66, 128, 255, 256, 257, 770, 1000]) {
+    for len in (0..=64).chain([65, 66, 128, 255, 256, 257, 770, 772, 826, 1000]) {
         for seed in 0..20 {
             let payload = noise(len, seed);
             let rpm = Rpm::from_bytes(&payload).map(|rpm| (rpm.rpm_source_id, rpm.rpm_values().to_vec()));
