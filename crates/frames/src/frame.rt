@@ -1,6 +1,6 @@
 // What a frame has about its payload, and what its writer answers.
 use base::narrow;
-use crc::checksum;
+use crc::checksum_fresh;
 use writing::Written;
 ghost use mathlib.Core.Path.{_≡_};
 ghost use mathlib.Core.List.{[], _∷_};
@@ -33,7 +33,7 @@ fn put_check(buffer: &mut [u8], last: usize)
     requires { ⌜ (2 ≤ last) × (last < length (now buffer)) ⌝ }
     ensures { λ _. ⌜ now (buffer .exit) ≡ pasted (now (buffer .entry)) last (remainder (slice 2 last (now (buffer .entry))) ∷ []) ⌝ }
 {
-    let check = checksum(&buffer[2..last]);
+    let check = checksum_fresh(&buffer[2..last]);
     buffer[last] = check;
 }
 

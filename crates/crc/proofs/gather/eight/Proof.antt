@@ -1,0 +1,31 @@
+-- `crc::gather::eight` meets its contract. Assumes nothing.
+use native.Mathlib.Omega.{arith}
+use Rattle.crc.proofs.Gathered.{beOf-eight}
+use borrow.Author.Needs.{needs}
+use Rattle.crc.proofs.gather.eight.Statement.{statement}
+use Rattle.crc.proofs.gather.eight.Tie as tie
+
+four-requires : tie.Need-four-requires
+four-requires c κs = search needs
+
+mul-result : tie.Need-mul-result
+mul-result c = search needs
+
+add-four : tie.Need-add-four
+add-four c = search needs
+
+four-requires-2 : tie.Need-four-requires-2
+four-requires-2 c κs = search needs
+
+add-result : tie.Need-add-result
+add-result c = search needs
+
+returns : tie.Need-returns
+returns c =
+    let a = c .before .before .before .args in
+    let bytes = beOf-eight (a .s .now) (a .i) (omega arith) in
+    omega (arith, bytes)
+
+pub eight-spec : {M : Type 1} → statement M
+eight-spec =
+    tie.close (tie.spec four-requires mul-result add-four four-requires-2 add-result returns)
