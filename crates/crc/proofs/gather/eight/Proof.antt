@@ -1,4 +1,6 @@
 -- `crc::gather::eight` meets its contract. Assumes nothing.
+use mathlib.Core.Path.{sym, ap₂, _∙_}
+use Prim.Native.Nat.{ℕ, _+_, _*_, _^_}
 use native.Mathlib.Omega.{arith}
 use Rattle.crc.proofs.Gathered.{beOf-eight}
 use borrow.Author.Needs.{needs}
@@ -23,8 +25,7 @@ add-result c = search needs
 returns : tie.Need-returns
 returns c =
     let a = c .before .before .before .args in
-    let bytes = beOf-eight (a .s .now) (a .i) (omega arith) in
-    omega (arith, bytes)
+    ap₂ (λ (x y : ℕ). x * 2 ^ 32 + y) (c .before .four .ensures .0) (c .four2 .ensures .0) ∙ sym (beOf-eight (a .s .now) (a .i) (omega arith))
 
 pub eight-spec : {M : Type 1} → statement M
 eight-spec =
