@@ -56,7 +56,7 @@ parts {f} lf k w =
 
 -- ---- from single bits to every number
 
-at-zero : {f : ℕ → ℕ} → Linear f → f 0 ≡ 0
+pub at-zero : {f : ℕ → ℕ} → Linear f → f 0 ≡ 0
 at-zero {f} lf = lf .law 0 0 ∙ xor-self (f 0)
 
 module _ {f g : ℕ → ℕ} (lf : Linear f) (lg : Linear g) where

@@ -1,4 +1,4 @@
--- A word folded: where x^k leaves x^j + x^i + 1, what stands above its k low bits goes back in three copies.
+-- The law of a fold (src/word.rt), over k, i and j.
 -- Assumes nothing.
 use mathlib.Core.Path.{_≡_}
 use Prim.Native.Nat.{ℕ, _+_, _*_, _/_, _%_, _^_, _≤_, _<_}

@@ -3,18 +3,19 @@
 use mathlib.Core.Path.{_≡_, refl, ap, ap₂, _∙_, sym}
 use mathlib.Core.List.{List, [], _∷_, _++_}
 use Prim.Native.Nat.{ℕ, zero, suc, _+_, _-_, _*_, _/_, _^_, _≤_, _<_}
-use native.Mathlib.Nat.{zero-mul, zero-add, add-zero, pow-suc, mul-assoc, add-mul, add-assoc}
+use native.Mathlib.Nat.{lt-of-lt-of-le, pow-le-pow-right, zero-mul, zero-add, add-zero, pow-suc, mul-assoc, add-mul, add-assoc}
 use native.Mathlib.Omega.{arith}
 use lib.Arith.{digits-div}
+use lib.Dec.{lit<}
 use lib.Pow.{pow-add}
 use lib.Bits.{bitXor}
 use lib.ListN.{length, getD, take, drop, length-append, length-drop, take-append-drop}
-use lib.Seq.{take-add, take-take, drop-drop, length-take-le, getD-drop}
+use lib.Seq.{take-add, take-take, drop-drop, length-take-le}
 use Rattle.base.specs.Bytes.{Bytes}
 use Rattle.base.specs.Parts.{part}
-use Rattle.base.proofs.Parts.{length-part, part-snoc, bytes-part}
+use Rattle.base.proofs.Parts.{length-part, part-snoc, bytes-part, bytes-drop}
 use Rattle.numbers.specs.BigEndian.{beOf}
-use Rattle.numbers.proofs.BigEndian.{beOf-snoc, beOf-lt}
+use Rattle.numbers.proofs.BigEndian.{beOf-snoc, beOf-lt, beOf-part-lt}
 use Rattle.crc.specs.Remainder.{shifts, remainder}
 use Rattle.crc.specs.Word.{wordCheck}
 use Rattle.crc.proofs.Laws.{remainder-apart}
@@ -40,6 +41,9 @@ behind s i n h = ap beOf (part-snoc s i n h) ∙ beOf-snoc (part s i n) (getD s 
 pub first-more : (s : List ℕ) (n : ℕ) → n < length s → beOf (take (n + 1) s) ≡ beOf (take n s) * 256 + getD s n 0
 first-more s n h = behind s 0 n (omega arith) ∙ ap (λ (k : ℕ). beOf (take n s) * 256 + getD s k 0) (zero-add n)
 
+pub first-seven : (s : List ℕ) (n : ℕ) → Bytes s → n < 8 → beOf (take n s) < 2 ^ 56
+first-seven s n h l = lt-of-lt-of-le (beOf-part-lt s 0 n h) (pow-le-pow-right (lit< tt) {i = n} {j = 7} (omega arith))
+
 -- .. four of them, ..
 pub beOf-four : (s : List ℕ) (i : ℕ) → i + 4 ≤ length s
     → beOf (part s i 4) ≡ ((getD s i 0 * 256 + getD s (i + 1) 0) * 256 + getD s (i + 2) 0) * 256 + getD s (i + 3) 0
@@ -55,15 +59,12 @@ beOf-eight s i h =
     ∙ beOf-append (part s i 4) (part s (i + 4) 4)
     ∙ ap (λ (k : ℕ). beOf (part s i 4) * 256 ^ k + beOf (part s (i + 4) 4)) (length-part s (i + 4) 4 (omega arith))
 
--- the first i of eight bytes are the upper end of them
 256-pow : (k : ℕ) → 256 ^ k ≡ 2 ^ (k * 8)
 256-pow zero = refl
 256-pow (suc k) = pow-suc 256 k ∙ ap (λ (m : ℕ). m * 256) (256-pow k) ∙ sym (pow-add 2 (k * 8) 8) ∙ ap (λ (m : ℕ). 2 ^ m) (omega arith)
 
-bytes-drop : (i : ℕ) (bs : List ℕ) → Bytes bs → Bytes (drop i bs)
-bytes-drop i bs h k = rw (getD-drop i bs k 0) (h (i + k))
-
-pub upper-end : (bs : List ℕ) → Bytes bs → length bs ≡ 8 → (i : ℕ) → i ≤ 8 → beOf bs / 2 ^ ((8 - i) * 8) ≡ beOf (take i bs)
+-- the first i of eight bytes are the upper end of them
+upper-end : (bs : List ℕ) → Bytes bs → length bs ≡ 8 → (i : ℕ) → i ≤ 8 → beOf bs / 2 ^ ((8 - i) * 8) ≡ beOf (take i bs)
 upper-end bs h e i l =
     let rest : length (drop i bs) ≡ 8 - i = length-drop i bs ∙ ap (λ (n : ℕ). n - i) e in
     let size : 256 ^ length (drop i bs) ≡ 2 ^ ((8 - i) * 8) = 256-pow (length (drop i bs)) ∙ ap (λ (k : ℕ). 2 ^ (k * 8)) rest in

@@ -3,7 +3,7 @@
 use mathlib.Core.Path.{_≡_, refl, ap, ap₂, _∙_, sym}
 use mathlib.Core.List.{List, [], _∷_, _++_}
 use Prim.Native.Nat.{ℕ, zero, suc, _+_, _*_, _/_, _%_, _^_, _≤_, _<_}
-use native.Mathlib.Nat.{pow-suc, pow-le-pow-right, div-lt-iff-lt-mul, lt-of-lt-of-le}
+use native.Mathlib.Nat.{add-zero, pow-suc, pow-le-pow-right, div-lt-iff-lt-mul, lt-of-lt-of-le}
 use native.Mathlib.Decide.{le-ind}
 use native.Mathlib.Omega.{arith}
 use lib.Arith.{lt-one}
@@ -33,15 +33,15 @@ wordCheck-linear = then (residue-linear 8) (shifts-linear 8)
 
 -- ---- zeros in front do not count
 
-below : (n w : ℕ) → w < 256 ^ suc n → w / 256 < 256 ^ n
-below n w h = div-lt-iff-lt-mul (lit< tt) .1 (rw pow-suc at h)
+byte-less : (n w : ℕ) → w < 256 ^ suc n → w / 256 < 256 ^ n
+byte-less n w h = div-lt-iff-lt-mul (lit< tt) .1 (rw pow-suc at h)
 
 one-more : (n w : ℕ) → w < 256 ^ n → residue (suc n) w ≡ residue n w
 unfolding residue shifts shiftBit
 one-more zero w h = rw (lt-one h)
-one-more (suc n) w h = ap (λ (x : ℕ). bitXor (shifts 8 x) (w % 256)) (one-more n (w / 256) (below n w h))
+one-more (suc n) w h = ap (λ (x : ℕ). bitXor (shifts 8 x) (w % 256)) (one-more n (w / 256) (byte-less n w h))
 
-pub residue-wide : (n w : ℕ) → w < 256 ^ n → (m : ℕ) → n ≤ m → residue m w ≡ residue n w
+residue-wide : (n w : ℕ) → w < 256 ^ n → (m : ℕ) → n ≤ m → residue m w ≡ residue n w
 residue-wide n w h =
     le-ind (λ (m : ℕ). residue m w ≡ residue n w) refl
     (λ m l e. one-more m w (lt-of-lt-of-le h (pow-le-pow-right (lit< tt) l)) ∙ e)
@@ -57,9 +57,9 @@ residue-next n w b h =
     ap₂ (λ (x y : ℕ). bitXor (shifts 8 (residue n x)) y) high byte
 
 -- the first n bytes, by one more each time
-none : shifts 8 0 ≡ remainder []
+of-none : shifts 8 0 ≡ remainder []
 unfolding shifts shiftBit remainder remainderFrom
-none = refl
+of-none = refl
 
 next : (n w b : ℕ) (bs : List ℕ) → b < 256 → shifts 8 (residue n w) ≡ remainder bs → shifts 8 (residue (suc n) (w * 256 + b)) ≡ remainder (bs ++ (b ∷ []))
 unfolding afterByte
@@ -67,7 +67,7 @@ next n w b bs h e = ap (shifts 8) (residue-next n w b h ∙ ap (λ (x : ℕ). bi
 
 of-first : (bs : List ℕ) → Bytes bs → (n : ℕ) → n ≤ length bs → shifts 8 (residue n (beOf (take n bs))) ≡ remainder (take n bs)
 unfolding residue
-of-first bs h zero l = none
+of-first bs h zero l = of-none
 of-first bs h (suc n) l =
     let front : List ℕ = take n bs in
     let b : ℕ = getD bs n 0 in
@@ -77,28 +77,24 @@ of-first bs h (suc n) l =
     ∙ next n (beOf front) b front (h n) (of-first bs h n (omega arith))
     ∙ ap remainder (sym grown)
 
-pub check-of-string : (bs : List ℕ) → Bytes bs → remainder bs ≡ shifts 8 (residue (length bs) (beOf bs))
-check-of-string bs h =
-    let all = take-length bs in
-    sym (ap (λ (l : List ℕ). shifts 8 (residue (length bs) (beOf l))) (sym all) ∙ of-first bs h (length bs) (omega arith) ∙ ap remainder all)
+pub check-of-string : (bs : List ℕ) → Bytes bs → shifts 8 (residue (length bs) (beOf bs)) ≡ remainder bs
+check-of-string bs h = rw (take-length bs) at (of-first bs h (length bs) (omega arith))
 
 -- .. of at most eight bytes
 pub check-of-word : (bs : List ℕ) → Bytes bs → length bs ≤ 8 → wordCheck (beOf bs) ≡ remainder bs
 unfolding wordCheck
-check-of-word bs h few = ap (shifts 8) (residue-wide (length bs) (beOf bs) (beOf-lt bs h) 8 few) ∙ sym (check-of-string bs h)
+check-of-word bs h few = ap (shifts 8) (residue-wide (length bs) (beOf bs) (beOf-lt bs h) 8 few) ∙ check-of-string bs h
 
 -- ---- the ends of `check_of`
 
 -- a word times x^8 leaves its check byte, ..
 pub times-x8 : (w : ℕ) → w < 2 ^ 56 → residue 8 (w * 256) ≡ wordCheck w
-unfolding residue wordCheck
+unfolding wordCheck
 times-x8 w h =
-    let high : w * 256 / 256 ≡ w = omega arith in
-    let none : w * 256 % 256 ≡ 0 = omega arith in
-    ap₂ (λ (x y : ℕ). bitXor (shifts 8 (residue 7 x)) y) high none ∙ xor-zero-r (shifts 8 (residue 7 w))
+    ap (residue 8) (sym (add-zero (w * 256))) ∙ residue-next 7 w 0 (lit< tt) ∙ xor-zero-r (shifts 8 (residue 7 w))
     ∙ ap (shifts 8) (sym (residue-wide 7 w h 8 (lit≤ tt)))
 
--- .. and that of two bytes is a step of the tables
+-- .. and two bytes leave the eight shifts of the upper, and the lower
 pub residue-two : (v : ℕ) → v < 2 ^ 16 → residue 8 v ≡ bitXor (shifts 8 (v / 256 % 256)) (v % 256)
 unfolding residue shifts shiftBit
 residue-two v h = residue-wide 2 v h 8 (lit≤ tt)

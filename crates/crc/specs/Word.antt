@@ -1,5 +1,5 @@
 -- A number as a polynomial: bit k is the coefficient of x^k, so exclusive or is the sum, and a bit further up is times x. What it leaves over the
--- polynomial of the check byte, and the check byte of its bytes. Only the steps between say these: what `checksum` and `checked` promise is `remainder`.
+-- polynomial of the check byte, and the check byte of its bytes. Only private functions promise these; what the public ones promise is `remainder`.
 -- Assumes nothing.
 use Prim.Native.Nat.{ℕ, zero, suc, _/_, _%_}
 use lib.Bits.{bitXor}

@@ -1,4 +1,4 @@
-// The word of a string: its bytes, eight at a time, the first the highest. What is left over eights comes first.
+// A word that has a string's check byte. The bytes come in eight at a time, the first the highest; those before the last whole eights come first.
 use crate::word::times_x64;
 ghost use mathlib.Core.Path.{_≡_};
 ghost use Prim.Native.Nat.{_+_, _-_, _%_, _^_, _≤_, _<_};
@@ -61,7 +61,7 @@ fn by_eights(s: &[u8], from: usize, first: u64) -> u64
     w
 }
 
-// What is left over eights is read one by one.
+// The bytes before the last whole eights are read one by one.
 pub(crate) fn fresh_word_of(s: &[u8]) -> u64
     ensures { λ r. ⌜ wordCheck r ≡ remainder (now (s .entry)) ⌝ }
 {
@@ -69,7 +69,7 @@ pub(crate) fn fresh_word_of(s: &[u8]) -> u64
     by_eights(s, i, first_bytes(s, i))
 }
 
-// The first 1 to 8 bytes are the upper end of the first eight, read at once.
+// The first bytes, 1 to 8 of them, are the upper end of the first eight, which are read at once.
 pub(crate) fn word_of(s: &[u8]) -> u64
     ensures { λ r. ⌜ wordCheck r ≡ remainder (now (s .entry)) ⌝ }
 {

@@ -1,5 +1,6 @@
-// A word of 64 bits as a polynomial: bit k is the coefficient of x^k, so `^` is the sum and `<< k` is times x^k. What it leaves over P is kept in
-// fewer bits, by what a power of x leaves: where x^k leaves x^j + x^i + 1, what stands above the k low bits goes back in three copies.
+// A word of 64 bits as a polynomial: bit k is the coefficient of x^k, so `^` is the sum, and `<< k` is times x^k where no bit is lost. What it leaves
+// over P (lib.rt) is kept in fewer bits, by what a power of x leaves: where x^k leaves x^j + x^i + 1, what stands above the k low bits goes back in
+// three copies.
 use crate::tables::shifted;
 ghost use mathlib.Core.Path.{_≡_};
 ghost use Prim.Native.Nat.{_^_, _<_};

@@ -1,4 +1,5 @@
--- `crc::word::check_of` meets its contract: the folds keep what is left of the word, moved up by a byte, and the table takes the last byte off.
+-- `crc::word::check_of` meets its contract: the folds keep what the word leaves, before and after it is moved up by a byte; of the two bytes that are
+-- left the tables shift the upper onto the lower.
 -- Assumes nothing.
 use mathlib.Core.Path.{_≡_, sym, ap, _∙_}
 use Prim.Native.Nat.{ℕ, _*_, _%_, _^_}
