@@ -27,17 +27,17 @@
  *
  * Stack: bytes that a call needs at most, with its return address and its arguments counted in. Measured on x86-64 by painting the stack:
  * `hosts/test --stack` measures again, and fails where a call needs more than this.
- *     crsf_next_raw_packet              400        crsf_reset                         24
+ *     crsf_next_raw_packet              104        crsf_reset                         24
  *     crsf_save                          24        crsf_restore                       24
  *     crsf_held                          24        crsf_is_address                    24
- *     crsf_header_of                     24        crsf_checksum                     352
+ *     crsf_header_of                     24        crsf_checksum                      56
  *     crsf_pack_altitude                 24        crsf_baro_decimetres               24
  *     crsf_gps_metres                    24        crsf_channel_microseconds          24
- *     crsf_raw_view                      24        crsf_write_link_statistics        432
- *     crsf_write_rc_channels_packed     448        crsf_write_gps                    384
- *     crsf_write_gps_extended           432        crsf_write_battery                368
- *     crsf_write_baro_altitude          352        crsf_write_rpm                    368
- *     crsf_write_temp                   384        crsf_write_voltages               384
+ *     crsf_raw_view                      24        crsf_write_link_statistics        136
+ *     crsf_write_rc_channels_packed     136        crsf_write_gps                    120
+ *     crsf_write_gps_extended           168        crsf_write_battery                 88
+ *     crsf_write_baro_altitude           40        crsf_write_rpm                     72
+ *     crsf_write_temp                    72        crsf_write_voltages                72
  *     crsf_read_link_statistics          24        crsf_read_rc_channels_packed       56
  *     crsf_read_gps                      24        crsf_read_gps_extended             24
  *     crsf_read_battery                  24        crsf_read_baro_altitude            24
