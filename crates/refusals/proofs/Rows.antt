@@ -9,7 +9,7 @@ use lib.Dec.{eqb}
 use lib.ListN.{getD}
 use Rattle.base.specs.Choice.{if_then_else_}
 use Rattle.refusals.specs.declared.Refusal.{Refusal}
-use Rattle.refusals.specs.declared.Refusal.the-variants.{InvalidSync, InvalidPacketLength, InvalidCrc, InvalidPayloadLength, BufferOverflow, ChannelRange, BadAddress, BadState}
+use Rattle.refusals.specs.declared.Refusal.the-variants.{InvalidSync, InvalidPacketLength, InvalidCrc, InvalidPayloadLength, BufferOverflow, ChannelRange, BadAddress, BadState, InvalidLog, InvalidFrame}
 use Rattle.refusals.specs.Row.{rowOf, numberOf}
 
 -- the refusal that a row is of
@@ -22,7 +22,9 @@ refusalOf row =
     if eqb (getD row 0 0) 5 then BufferOverflow else
     if eqb (getD row 0 0) 6 then ChannelRange (getD row 1 0) else
     if eqb (getD row 0 0) 7 then BadAddress else
-    BadState
+    if eqb (getD row 0 0) 8 then BadState else
+    if eqb (getD row 0 0) 9 then InvalidLog else
+    InvalidFrame
 
 pub back : (r : Refusal) → refusalOf (rowOf r) ≡ r
 back (InvalidSync byte) = refl
@@ -33,6 +35,8 @@ back BufferOverflow = refl
 back (ChannelRange index) = refl
 back BadAddress = refl
 back BadState = refl
+back InvalidLog = refl
+back InvalidFrame = refl
 
 pub one-refusal : {r s : Refusal} → rowOf r ≡ rowOf s → r ≡ s
 one-refusal {r} {s} same = sym (back r) ∙ ap refusalOf same ∙ back s
@@ -47,6 +51,8 @@ number-bounds BufferOverflow = omega arith
 number-bounds (ChannelRange index) = omega arith
 number-bounds BadAddress = omega arith
 number-bounds BadState = omega arith
+number-bounds InvalidLog = omega arith
+number-bounds InvalidFrame = omega arith
 
 pub not-zero : (r : Refusal) {values : List ℕ} → rowOf r ≡ 0 ∷ values → ⊥
 not-zero r {values} e =

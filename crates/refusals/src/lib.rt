@@ -14,6 +14,10 @@ pub enum Refusal {
     ChannelRange(usize),
     BadAddress,
     BadState,
+    // A log that is none: a malformed number, another first number than 1, an end where none may be, a byte behind the end.
+    InvalidLog,
+    // Bytes that are not one whole valid frame, or that no frame has so many of.
+    InvalidFrame,
 }
 
 // A refusal as numbers: its own, and what it carries; 0 where it carries no more.
@@ -78,6 +82,16 @@ pub fn row_of(refusal: Refusal) -> Row
         },
         Refusal::BadState => Row {
             number: 8,
+            first: 0,
+            second: 0,
+        },
+        Refusal::InvalidLog => Row {
+            number: 9,
+            first: 0,
+            second: 0,
+        },
+        Refusal::InvalidFrame => Row {
+            number: 10,
             first: 0,
             second: 0,
         },

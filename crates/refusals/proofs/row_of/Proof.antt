@@ -46,6 +46,12 @@ enum-told-3 c = search needs
 enum-told-4 : tie.Need-enum-told-4
 enum-told-4 c = search needs
 
+enum-told-5 : tie.Need-enum-told-5
+enum-told-5 c = search needs
+
+enum-told-6 : tie.Need-enum-told-6
+enum-told-6 c = search needs
+
 returns : tie.Need-returns
 returns c = sym (ap says (c .before .refusal .given .1))
 
@@ -70,6 +76,12 @@ returns-7 c = sym (ap says (c .enum-told3 .given .1))
 returns-8 : tie.Need-returns-8
 returns-8 c = sym (ap says (c .enum-told4 .given .1))
 
+returns-9 : tie.Need-returns-9
+returns-9 c = sym (ap says (c .enum-told5 .given .1))
+
+returns-10 : tie.Need-returns-10
+returns-10 c = sym (ap says (c .enum-told6 .given .1))
+
 pub row-of-spec : {M : Type 1} → statement M
 row-of-spec =
     tie.close
@@ -86,6 +98,8 @@ row-of-spec =
     enum-known-refusal-4
     enum-told-3
     enum-told-4
+    enum-told-5
+    enum-told-6
     returns
     returns-2
     returns-3
@@ -93,4 +107,6 @@ row-of-spec =
     returns-5
     returns-6
     returns-7
-    returns-8)
+    returns-8
+    returns-9
+    returns-10)
