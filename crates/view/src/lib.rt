@@ -1,26 +1,11 @@
 // Parts of lent bytes: the frame that a call answered with, and a raw view of any bytes.
+use base::part_of;
 use refusals::Refusal;
 use stream::step::Place;
 use stream::step::Reply;
 ghost use mathlib.Core.Path.{_≡_};
-ghost use Rattle.base.specs.Parts.{part};
 ghost use Rattle.stream.specs.Step.{bytesAt};
 ghost use Rattle.view.specs.View.{frameOf, rawRow, rawOf, payloadOf};
-
-// The len bytes of s from place at on, as far as they are there.
-fn part_of(s: &[u8], at: usize, len: usize) -> &[u8]
-    ensures { λ r. ⌜ now r ≡ part (now (s .entry)) at len ⌝ }
-{
-    let n = s.len();
-    if n < at {
-        return &s[..0];
-    }
-    if n - at < len {
-        return &s[at..];
-    }
-    let stop = at + len;
-    &s[at..stop]
-}
 
 fn bytes_at<'a>(place: Place, piece: &'a [u8], places: &'a [u8]) -> &'a [u8]
     ensures { λ r. ⌜ now r ≡ bytesAt place (now (piece .entry)) (now (places .entry)) ⌝ }

@@ -1,12 +1,12 @@
--- `view::part_of` meets its contract. Assumes nothing.
+-- `base::part_of` meets its contract. Assumes nothing.
 use mathlib.Core.Path.{_≡_, sym, ap, _∙_}
 use Prim.Native.Nat.{_+_, _-_, _≤_}
 use native.Mathlib.Omega.{arith}
 use lib.ListN.{length, take, drop, length-drop, drop-of-length-le}
 use lib.Seq.{take-nil, take-all}
 use borrow.Author.Needs.{needs}
-use Rattle.view.proofs.part_of.Statement.{statement}
-use Rattle.view.proofs.part_of.Tie as tie
+use Rattle.base.proofs.part_of.Statement.{statement}
+use Rattle.base.proofs.part_of.Tie as tie
 
 slice-aggregate-result : tie.Need-slice-aggregate-result
 slice-aggregate-result c = search needs
