@@ -282,6 +282,16 @@ on-below g v w b v₂ w₂ state byte e = by (cases g v w b) e
     by (large low form much) q = absurd (let z : _≡_ {A = ℕ} 0 1 = cc in omega arith)
     by (last low form small) q = absurd (let z : _≡_ {A = ℕ} 0 1 = cc in omega arith)
 
+pub on-weight : (g v w b v₂ w₂ : ℕ) → step g v w b ≡ GoesOn v₂ w₂ → (w₂ ≡ 128 * w) × (128 * w ≤ g)
+on-weight g v w b v₂ w₂ e = by (cases g v w b) e
+  where
+    by : {x : Step} → Case g v w b x → x ≡ GoesOn v₂ w₂ → (w₂ ≡ 128 * w) × (128 * w ≤ g)
+    by (on high room) q = (cc, room)
+    by (many high none) q = absurd (let z : _≡_ {A = ℕ} 0 1 = cc in omega arith)
+    by (zeroLast low after z) q = absurd (let z : _≡_ {A = ℕ} 0 1 = cc in omega arith)
+    by (large low form much) q = absurd (let z : _≡_ {A = ℕ} 0 1 = cc in omega arith)
+    by (last low form small) q = absurd (let z : _≡_ {A = ℕ} 0 1 = cc in omega arith)
+
 pub done-small : (g v w b n : ℕ) → step g v w b ≡ Done n → n ≤ g
 done-small g v w b n e = by (cases g v w b) e
   where

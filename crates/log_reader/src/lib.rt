@@ -3,15 +3,15 @@
 mod held;
 mod number;
 mod piece;
-mod turn;
+mod run;
 
 use base::part_of;
 use held::is_held_fine;
 use number::weight_of;
 use refusals::Refusal;
 use refusals::row_of;
+use run::run;
 use stream::LIMIT;
-use turn::run;
 ghost use mathlib.Core.Path.{_≡_};
 ghost use Rattle.log_reader.specs.State.{canGoOn, ofLogs, isState};
 ghost use Rattle.log_reader.specs.Reader.{bytesAt, Nexts, Closes};

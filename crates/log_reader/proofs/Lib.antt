@@ -1,0 +1,6 @@
+pub mod Readers
+pub mod FrameSteps
+pub mod Late
+pub mod Turns
+pub mod Pieces
+pub mod Sessions
