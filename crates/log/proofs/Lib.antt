@@ -5,3 +5,5 @@ pub mod Numbers
 pub mod Agrees
 pub mod Laws
 pub mod Edges
+pub mod Weights
+pub mod Room

@@ -4,4 +4,5 @@ pub mod Entry
 pub mod Reading
 pub mod Strings
 pub mod Call
+pub mod Room
 pub mod Edges

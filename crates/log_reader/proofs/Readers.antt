@@ -24,6 +24,7 @@ use Rattle.reading.specs.Reading.{limit}
 use Rattle.log.specs.Entry.{greatest}
 use Rattle.log.specs.Reading.{State, number, refused, meaning, fine, feedNumber}
 use Rattle.log.proofs.Agrees.{size-means, no-size}
+use Rattle.log.proofs.Weights.{weight-next, weight-few, weight-low}
 use Rattle.log_reader.specs.State.{wantOf, weightOf, canGoOn, heldFine, ofLogs, standing, isState}
 use Rattle.log_reader.specs.Parts.{Is, Means, FedNumber}
 use Rattle.log_reader.specs.declared.Wanted.{Wanted}
@@ -138,37 +139,7 @@ pub state-standing : (p : List ℕ) (st : Reader) → isState p st ≡ true → 
 unfolding isState
 state-standing p st e = and-eq-true-iff (leb limit (length p)) (standing p st) .0 e .1
 
--- ---- weights
-
--- what holds of each count of groups that a number may have had
-up-to-four : (P : ℕ → Type 0) → P 0 → P 1 → P 2 → P 3 → P 4 → (g : ℕ) → g ≤ 4 → P g
-up-to-four P a b c d e zero h = a
-up-to-four P a b c d e (suc zero) h = b
-up-to-four P a b c d e (suc (suc zero)) h = c
-up-to-four P a b c d e (suc (suc (suc zero))) h = d
-up-to-four P a b c d e (suc (suc (suc (suc zero)))) h = e
-up-to-four P a b c d e (suc (suc (suc (suc (suc g))))) h = absurd (omega arith)
-
-pub weight-next : (g : ℕ) → g ≤ 4 → weightOf (g + 1) ≡ 128 * weightOf g
-weight-next = up-to-four (λ (g : ℕ). weightOf (g + 1) ≡ 128 * weightOf g) refl refl refl refl refl
-
-weight-few : (g : ℕ) → g ≤ 4 → 128 * weightOf g ≤ greatest → g + 1 ≤ 4
-weight-few =
-    up-to-four (λ (g : ℕ). 128 * weightOf g ≤ greatest → g + 1 ≤ 4) (λ h. omega arith) (λ h. omega arith) (λ h. omega arith) (λ h. omega arith)
-    (λ (h : 34359738368 ≤ 4294967295). absurd (omega arith))
-
-pub weight-low : (g : ℕ) → g ≤ 4 → weightOf g ≤ 268435456
-weight-low = up-to-four (λ (g : ℕ). weightOf g ≤ 268435456) (omega arith) (omega arith) (omega arith) (omega arith) (omega arith)
-
-pub weight-unit : (g : ℕ) → g ≤ 4 → eqb (weightOf g) 1 ≡ eqb g 0
-weight-unit = up-to-four (λ (g : ℕ). eqb (weightOf g) 1 ≡ eqb g 0) refl refl refl refl refl
-
--- how many groups have come, by what the next is worth
-abbrev pub groupsAt : ℕ → ℕ
-groupsAt w = if eqb w 1 then 0 else if eqb w 128 then 1 else if eqb w 16384 then 2 else if eqb w 2097152 then 3 else 4
-
-pub weight-back : (g : ℕ) → g ≤ 4 → groupsAt (weightOf g) ≡ g
-weight-back = up-to-four (λ (g : ℕ). groupsAt (weightOf g) ≡ g) refl refl refl refl refl
+-- ---- a number that is begun
 
 module _ (v g : ℕ) (state : canGoOn v g ≡ true) where
   both-tests : (leb g 4 ≡ true) × (ltb v (weightOf g) ≡ true)

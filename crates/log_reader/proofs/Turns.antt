@@ -33,7 +33,8 @@ use Rattle.log_reader.specs.declared.Ending.the-variants as ending
 use Rattle.log_reader.specs.declared.Turn.{Turn}
 use Rattle.log_reader.specs.declared.Turn.the-variants as turn
 use Rattle.log.proofs.History.{call-on, call-entry, call-refused, call-ended}
-use Rattle.log_reader.proofs.Readers.{of-logs-9, state-refused, state-ended, state-number, stands-refused, stands-fresh, state-room, weight-unit, few-groups}
+use Rattle.log_reader.proofs.Readers.{of-logs-9, state-refused, state-ended, state-number, stands-refused, stands-fresh, state-room, few-groups}
+use Rattle.log.proofs.Weights.{weight-unit}
 use Rattle.log_reader.proofs.Late.{Late, Fresh, late-start, late-on, late-entry}
 
 -- ---- one byte
