@@ -24,6 +24,9 @@ pub struct HostAnswer {
     pub second: u8,
 }
 
+// The number of an answer that asks for more.
+pub const MORE: u8 = 255;
+
 fn below(low: u8, rest: u64) -> u64
     requires { ⌜ rest < 2 ^ 56 ⌝ }
     ensures { λ r. ⌜ r ≡ low + 256 * rest ⌝ }
@@ -48,7 +51,7 @@ pub fn pack(t: HostAnswer) -> u64
 }
 
 // A number, and what it carries.
-pub(crate) fn said(number: u8, taken: u8, first: u8, second: u8) -> HostAnswer
+pub fn said(number: u8, taken: u8, first: u8, second: u8) -> HostAnswer
     ensures { λ r. ⌜ r ≡ answerNumber number taken first second ⌝ }
 {
     HostAnswer {
@@ -85,7 +88,7 @@ pub fn count(n: usize) -> u64
 }
 
 // A refusal, by its row: this is the one place where an answer gets a refusal's number and values.
-pub(crate) fn carried(refusal: Refusal, taken: u8) -> HostAnswer
+pub fn carried(refusal: Refusal, taken: u8) -> HostAnswer
     ensures { λ r. ⌜ r ≡ answerCarried taken (rowOf refusal) ⌝ }
 {
     let row = row_of(refusal);

@@ -1,4 +1,5 @@
 // What a call of the stream says, in eight bytes. These are packed in each arm: packed behind the match, a call of few bytes takes longer.
+use crate::answer::MORE;
 use crate::answer::carried;
 use crate::answer::pack;
 use crate::answer::placed;
@@ -11,9 +12,6 @@ use stream::step::Reply;
 ghost use mathlib.Core.Path.{_≡_};
 ghost use Rattle.host_answer.specs.Answer.{packed, inBytes};
 ghost use Rattle.host_answer.specs.Reply.{answerCall};
-
-// The number of an answer that asks for more.
-const MORE: u8 = 255;
 
 pub fn answer_call(replied: Replied) -> u64
     ensures { λ r. ⌜ r ≡ packed (inBytes (answerCall replied)) ⌝ }

@@ -1,0 +1,5 @@
+-- `State`: the bytes of a state. `Calls`: a call, the end and a reset over it. `Answer`: what is answered, in eight bytes. `Session`: any run of entries.
+pub mod State
+pub mod Calls
+pub mod Answer
+pub mod Session
