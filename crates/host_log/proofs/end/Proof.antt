@@ -8,57 +8,40 @@ use mathlib.Core.Path.{_≡_, sym, _∙_}
 use borrow.Author.Needs.{needs}
 use Rattle.host_log.proofs.end.Statement.{statement}
 use Rattle.host_log.proofs.end.Tie as tie
-use Rattle.host_log.proofs.end.Reads as reads
-use Rattle.host_log.proofs.end.Lts as lts
-use Rattle.host_log.proofs.head.put_reader.Reads as put-reader-reads
-use Rattle.host_log.proofs.head.reader_in.Reads as reader-in-reads
-use Rattle.host_log.proofs.is_state.Reads as is-state-reads
-use Rattle.log_reader.proofs.end.Reads as end-reads
 
 good : (c : tie.Else1) → isState (c .before .before .before .before .args .state .now) ≡ true
 good c = sym (c .before .is-state .ensures) ∙ not-false _ (c .if1 .left)
 
--- src/lib.rt:68:9
 is-state-requires : tie.Need-is-state-requires
 is-state-requires c κs = search needs
 
--- src/lib.rt:69:9
 same-length : tie.Need-same-length
 same-length c = search needs
 
--- src/lib.rt:69:9
 returns : tie.Need-returns
 returns c = end-refused _ (sym (c .before .is-state .ensures) ∙ not-true _ (c .if1 .taken))
 
--- src/lib.rt:71:9
 reader-in-requires : tie.Need-reader-in-requires
 reader-in-requires c κs = let f = state-size _ (good (c .before)) in omega arith
 
--- src/lib.rt:72:34
 sub-end : tie.Need-sub-end
 sub-end c = let f = state-size _ (good (c .before .before)) in omega arith
 
--- src/lib.rt:72:34
 part-end-start : tie.Need-part-end-start
 part-end-start c = let f = state-size _ (good (c .before .before .before)) in omega arith
 
--- src/lib.rt:72:34
 part-end-end : tie.Need-part-end-end
 part-end-end c = search needs
 
--- src/lib.rt:72:9
 end-requires : tie.Need-end-requires
 end-requires c κs = search needs
 
--- src/lib.rt:74:5
 put-reader-requires : tie.Need-put-reader-requires
 put-reader-requires c κs = let f = state-size _ (good (c .before .before .before .before .before .before)) in omega arith
 
--- src/lib.rt:65:1
 same-length-2 : tie.Need-same-length-2
 same-length-2 c = search needs
 
--- src/lib.rt:65:1
 returns-2 : tie.Need-returns-2
 returns-2 c =
     let n = c .before .before .before .before in

@@ -8,44 +8,31 @@ use mathlib.Core.Path.{_≡_, sym, _∙_}
 use borrow.Author.Needs.{needs}
 use Rattle.host_log.proofs.is_state.Statement.{statement}
 use Rattle.host_log.proofs.is_state.Tie as tie
-use Rattle.host_log.proofs.is_state.Reads as reads
-use Rattle.host_log.proofs.is_state.Lts as lts
-use Rattle.host_log.proofs.has_form.Reads as has-form-reads
-use Rattle.host_log.proofs.head.reader_in.Reads as reader-in-reads
-use Rattle.log_reader.proofs.is_state.Reads as is-state-reads
 
 form : (c : tie.Else1) → hasForm (c .before .before .before .args .state .now) ≡ true
 form c = sym (c .before .has-form .ensures) ∙ not-false _ (c .if1 .left)
 
--- src/lib.rt:37:9
 has-form-requires : tie.Need-has-form-requires
 has-form-requires c κs = search needs
 
--- src/lib.rt:38:9
 returns : tie.Need-returns
 returns c = formless _ (sym (c .before .has-form .ensures) ∙ not-true _ (c .if1 .taken))
 
--- src/lib.rt:40:26
 sub-is-state : tie.Need-sub-is-state
 sub-is-state c = let f = form-size _ (form c) in omega arith
 
--- src/lib.rt:40:26
 part-is-state-start : tie.Need-part-is-state-start
 part-is-state-start c = let f = form-size _ (form c) in omega arith
 
--- src/lib.rt:40:26
 part-is-state-end : tie.Need-part-is-state-end
 part-is-state-end c = search needs
 
--- src/lib.rt:40:44
 reader-in-requires : tie.Need-reader-in-requires
 reader-in-requires c κs = let f = form-size _ (form (c .before)) in omega arith
 
--- src/lib.rt:40:5
 is-state-requires : tie.Need-is-state-requires
 is-state-requires c κs = search needs
 
--- src/lib.rt:34:1
 returns-2 : tie.Need-returns-2
 returns-2 c =
     let e = form (c .before .before .before) in let s = c .before .before .before .before .before .before .args .state .now in

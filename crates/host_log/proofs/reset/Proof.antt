@@ -3,28 +3,19 @@ use Rattle.host_log.proofs.States.{reset-refused, reset-done}
 use borrow.Author.Needs.{needs}
 use Rattle.host_log.proofs.reset.Statement.{statement}
 use Rattle.host_log.proofs.reset.Tie as tie
-use Rattle.host_log.proofs.reset.Reads as reads
-use Rattle.host_log.proofs.reset.Lts as lts
-use Rattle.host_log.proofs.head.put_reader.Reads as put-reader-reads
-use Rattle.log_reader.proofs.reset.Reads as reset-reads
 
--- src/lib.rt:83:9
 returns : tie.Need-returns
 returns c = reset-refused _ (c .if1 .taken)
 
--- src/lib.rt:85:23
 reset-requires : tie.Need-reset-requires
 reset-requires c κs = search needs
 
--- src/lib.rt:85:5
 put-reader-requires : tie.Need-put-reader-requires
 put-reader-requires c κs = search needs
 
--- src/lib.rt:79:1
 same-length : tie.Need-same-length
 same-length c = search needs
 
--- src/lib.rt:79:1
 returns-2 : tie.Need-returns-2
 returns-2 c = let p = c .before .before in reset-done _ _ (p .before .before .before .if1 .left) (p .before .reset .ensures) (p .put-reader .ensures)
 

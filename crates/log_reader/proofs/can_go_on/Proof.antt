@@ -8,19 +8,13 @@ use borrow.Author.Tests.{lt-leb}
 use borrow.Author.Needs.{needs}
 use Rattle.log_reader.proofs.can_go_on.Statement.{statement}
 use Rattle.log_reader.proofs.can_go_on.Tie as tie
-use Rattle.log_reader.proofs.can_go_on.Reads as reads
-use Rattle.log_reader.proofs.can_go_on.Lts as lts
-use Rattle.log_reader.proofs.number.weight_of.Reads as weight-of-reads
 
--- src/lib.rt:104:9
 returns : tie.Need-returns
 returns c = simp (lt-leb _ 4 (c .if1 .taken))
 
--- src/lib.rt:106:22
 weight-of-requires : tie.Need-weight-of-requires
 weight-of-requires c κs = search needs
 
--- src/lib.rt:100:1
 returns-2 : tie.Need-returns-2
 returns-2 c =
     let few : leb (c .before .before .args .groups) 4 ≡ true = le-leb (c .before .before .args .groups) 4 (omega arith) in rw (c .weight-of .ensures, few)

@@ -5,30 +5,20 @@ use Rattle.log_reader.proofs.Turns.{end-refused, end-finishes}
 use borrow.Author.Needs.{needs}
 use Rattle.log_reader.proofs.end.Statement.{statement}
 use Rattle.log_reader.proofs.end.Tie as tie
-use Rattle.log_reader.proofs.end.Reads as reads
-use Rattle.log_reader.proofs.end.Lts as lts
-use Rattle.log_reader.proofs.end_reader.Reads as end-reader-reads
-use Rattle.log_reader.proofs.ending_at.Reads as ending-at-reads
-use Rattle.log_reader.proofs.is_state.Reads as is-state-reads
 
--- src/lib.rt:212:9
 is-state-requires : tie.Need-is-state-requires
 is-state-requires c κs = search needs
 
--- src/lib.rt:213:9
 returns : tie.Need-returns
 returns c =
     let k = c .before in let a = k .before .before .args in end-refused (a .places .now) (a .reader) (sym (k .is-state .ensures) ∙ not-true _ (c .if1 .taken))
 
--- src/lib.rt:218:9
 end-reader-requires : tie.Need-end-reader-requires
 end-reader-requires c κs = search needs
 
--- src/lib.rt:219:9
 ending-at-requires : tie.Need-ending-at-requires
 ending-at-requires c κs = search needs
 
--- src/lib.rt:209:1
 returns-2 : tie.Need-returns-2
 returns-2 c =
     let e = c .before .before in let k = e .before in let a = k .before .before .args in

@@ -2,43 +2,31 @@
 use borrow.Author.Needs.{needs}
 use Rattle.log_reader.proofs.end_reader.Statement.{statement}
 use Rattle.log_reader.proofs.end_reader.Tie as tie
-use Rattle.log_reader.proofs.end_reader.Reads as reads
-use Rattle.log_reader.proofs.end_reader.Lts as lts
-use Rattle.log_reader.proofs.end_number.Reads as end-number-reads
 
--- src/lib.rt:187:13
 enum-known-reader : tie.Need-enum-known-reader
 enum-known-reader c = search needs
 
--- src/lib.rt:190:14
 end-number-requires : tie.Need-end-number-requires
 end-number-requires c κs = search needs
 
--- src/lib.rt:191:49
 enum-told : tie.Need-enum-told
 enum-told c = search needs
 
--- src/lib.rt:192:25
 enum-known-reader-2 : tie.Need-enum-known-reader-2
 enum-known-reader-2 c = search needs
 
--- src/lib.rt:193:26
 enum-told-2 : tie.Need-enum-told-2
 enum-told-2 c = search needs
 
--- src/lib.rt:182:1
 returns : tie.Need-returns
 returns c = rw (c .before .before .reader .given .1) (c .end-number .ensures)
 
--- src/lib.rt:182:1
 returns-2 : tie.Need-returns-2
 returns-2 c = simp (c .enum-told .given .1)
 
--- src/lib.rt:182:1
 returns-3 : tie.Need-returns-3
 returns-3 c = simp (c .before .reader2 .given .1)
 
--- src/lib.rt:182:1
 returns-4 : tie.Need-returns-4
 returns-4 c = search needs
 

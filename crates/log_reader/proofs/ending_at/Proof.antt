@@ -2,38 +2,28 @@
 use borrow.Author.Needs.{needs}
 use Rattle.log_reader.proofs.ending_at.Statement.{statement}
 use Rattle.log_reader.proofs.ending_at.Tie as tie
-use Rattle.log_reader.proofs.ending_at.Reads as reads
-use Rattle.log_reader.proofs.ending_at.Lts as lts
 
--- src/lib.rt:201:34
 enum-told : tie.Need-enum-told
 enum-told c = search needs
 
--- src/lib.rt:202:33
 enum-told-2 : tie.Need-enum-told-2
 enum-told-2 c = search needs
 
--- src/lib.rt:203:25
 enum-known-reader : tie.Need-enum-known-reader
 enum-known-reader c = search needs
 
--- src/lib.rt:204:26
 enum-told-3 : tie.Need-enum-told-3
 enum-told-3 c = search needs
 
--- src/lib.rt:197:1
 returns : tie.Need-returns
 returns c = search needs
 
--- src/lib.rt:197:1
 returns-2 : tie.Need-returns-2
 returns-2 c = search needs
 
--- src/lib.rt:197:1
 returns-3 : tie.Need-returns-3
 returns-3 c = simp (c .before .reader .given .1)
 
--- src/lib.rt:197:1
 returns-4 : tie.Need-returns-4
 returns-4 c = search needs
 

@@ -5,75 +5,55 @@ use Rattle.log_reader.proofs.Readers.{state-short, state-low, state-hig
 use borrow.Author.Needs.{needs}
 use Rattle.log_reader.proofs.is_state.Statement.{statement}
 use Rattle.log_reader.proofs.is_state.Tie as tie
-use Rattle.log_reader.proofs.is_state.Reads as reads
-use Rattle.log_reader.proofs.is_state.Lts as lts
-use Rattle.log_reader.proofs.can_go_on.Reads as can-go-on-reads
-use Rattle.log_reader.proofs.held.is_held_fine.Reads as is-held-fine-reads
-use Rattle.log_reader.proofs.of_logs.Reads as of-logs-reads
 
--- src/lib.rt:124:9
 returns : tie.Need-returns
 returns c = let a = c .before .before .args in state-short (a .places .now) (a .reader) (omega arith)
 
--- src/lib.rt:129:13
 enum-known-reader : tie.Need-enum-known-reader
 enum-known-reader c = search needs
 
--- src/lib.rt:131:14
 can-go-on-requires : tie.Need-can-go-on-requires
 can-go-on-requires c κs = search needs
 
--- src/lib.rt:134:13
 enum-known-reader-2 : tie.Need-enum-known-reader-2
 enum-known-reader-2 c = search needs
 
--- src/lib.rt:138:17
 returns-2 : tie.Need-returns-2
 returns-2 c =
     let a = c .before .before .before .before .before .before .args in state-low (a .places .now) (a .reader) (omega arith) (c .before .before .reader2 .given .1) (c .if2 .taken)
 
--- src/lib.rt:141:17
 returns-3 : tie.Need-returns-3
 returns-3 c =
     let a = c .before .before .before .before .before .before .before .args in state-high (a .places .now) (a .reader) (omega arith) (c .before .before .before .reader2 .given .1) (c .if3 .taken)
 
--- src/lib.rt:144:17
 returns-4 : tie.Need-returns-4
 returns-4 c =
     let b = c .before .before .before .before in let a = b .before .before .before .before .args in state-full (a .places .now) (a .reader) (omega arith) (b .reader2 .given .1) (c .before .before .if2 .left) (c .before .if3 .left) (c .if4 .taken)
 
--- src/lib.rt:146:13
 is-held-fine-requires : tie.Need-is-held-fine-requires
 is-held-fine-requires c κs = search needs
 
--- src/lib.rt:148:25
 enum-known-reader-3 : tie.Need-enum-known-reader-3
 enum-known-reader-3 c = search needs
 
--- src/lib.rt:148:37
 of-logs-requires : tie.Need-of-logs-requires
 of-logs-requires c κs = search needs
 
--- src/lib.rt:149:26
 enum-told : tie.Need-enum-told
 enum-told c = search needs
 
--- src/lib.rt:120:1
 returns-5 : tie.Need-returns-5
 returns-5 c =
     let b = c .before .before in let a = b .before .before .before .before .args in c .can-go-on .ensures ∙ state-number (a .places .now) (a .reader) (omega arith) (b .reader .given .1)
 
--- src/lib.rt:120:1
 returns-6 : tie.Need-returns-6
 returns-6 c =
     let b = c .before .before .before .before .before in let a = b .before .before .before .before .args in c .is-held-fine .ensures ∙ state-held (a .places .now) (a .reader) (omega arith) (b .reader2 .given .1) (c .before .before .before .if2 .left) (c .before .before .if3 .left) (c .before .if4 .left)
 
--- src/lib.rt:120:1
 returns-7 : tie.Need-returns-7
 returns-7 c =
     let b = c .before .before in let a = b .before .before .before .before .args in c .of-logs .ensures ∙ state-refused (a .places .now) (a .reader) (omega arith) (b .reader3 .given .1)
 
--- src/lib.rt:120:1
 returns-8 : tie.Need-returns-8
 returns-8 c =
     let a = c .before .before .before .before .args in state-ended (a .places .now) (a .reader) (omega arith) (c .enum-told .given .1)

@@ -5,19 +5,13 @@ use Rattle.log_reader.proofs.Readers.{logs-nine, logs-ten}
 use borrow.Author.Needs.{needs}
 use Rattle.log_reader.proofs.of_logs.Statement.{statement}
 use Rattle.log_reader.proofs.of_logs.Tie as tie
-use Rattle.log_reader.proofs.of_logs.Reads as reads
-use Rattle.log_reader.proofs.of_logs.Lts as lts
-use Rattle.refusals.proofs.row_of.Reads as row-of-reads
 
--- src/lib.rt:112:9
 row-of-requires : tie.Need-row-of-requires
 row-of-requires c κs = search needs
 
--- src/lib.rt:114:9
 returns : tie.Need-returns
 returns c = let k = c .before .before in logs-nine (k .before .args .refusal) (ap (λ (x : Row). x .number) (k .row-of .ensures)) (c .if1 .taken)
 
--- src/lib.rt:109:1
 returns-2 : tie.Need-returns-2
 returns-2 c =
     let k = c .before .before .before in logs-ten (k .before .args .refusal) (ap (λ (x : Row). x .number) (k .row-of .ensures)) (c .before .if1 .left)

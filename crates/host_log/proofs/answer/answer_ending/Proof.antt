@@ -8,36 +8,26 @@ use mathlib.Core.Path.{sym, ap, _∙_}
 use borrow.Author.Needs.{needs}
 use Rattle.host_log.proofs.answer.answer_ending.Statement.{statement}
 use Rattle.host_log.proofs.answer.answer_ending.Tie as tie
-use Rattle.host_log.proofs.answer.answer_ending.Reads as reads
-use Rattle.host_log.proofs.answer.answer_ending.Lts as lts
-use Rattle.host_answer.proofs.answer.count.Reads as count-reads
-use Rattle.host_answer.proofs.answer.refuse.Reads as refuse-reads
 
 abbrev says : Ending → ℕ
 says e = packed (answerRow (endingRow e))
 
--- src/answer.rt:39:24
 enum-told : tie.Need-enum-told
 enum-told c = search needs
 
--- src/answer.rt:39:24
 count-requires : tie.Need-count-requires
 count-requires c κs = search needs
 
--- src/answer.rt:40:25
 enum-known-ending : tie.Need-enum-known-ending
 enum-known-ending c = search needs
 
--- src/answer.rt:40:37
 refuse-requires : tie.Need-refuse-requires
 refuse-requires c κs = search needs
 
--- src/answer.rt:35:1
 returns : tie.Need-returns
 unfolding endingRow answerRow
 returns c = c .count .ensures ∙ sym (ap says (c .before .enum-told .given .1))
 
--- src/answer.rt:35:1
 returns-2 : tie.Need-returns-2
 unfolding endingRow
 returns-2 c = let known = c .before .before in c .refuse .ensures ∙ sym (ap packed (row-refusal (known .ending .given .0 .0))) ∙ sym (ap says (known .ending .given .1))

@@ -5,87 +5,61 @@ use mathlib.Core.Path.{ap, _∙_}
 use borrow.Author.Needs.{needs}
 use Rattle.host_log.proofs.answer.answer_log.Statement.{statement}
 use Rattle.host_log.proofs.answer.answer_log.Tie as tie
-use Rattle.host_log.proofs.answer.answer_log.Reads as reads
-use Rattle.host_log.proofs.answer.answer_log.Lts as lts
-use Rattle.base.proofs.narrow.Reads as narrow-reads
-use Rattle.host_answer.proofs.answer.carried.Reads as carried-reads
-use Rattle.host_answer.proofs.answer.pack.Reads as pack-reads
-use Rattle.host_answer.proofs.answer.placed.Reads as placed-reads
-use Rattle.host_answer.proofs.answer.said.Reads as said-reads
 
--- src/answer.rt:24:9
 narrow-requires : tie.Need-narrow-requires
 narrow-requires c κs = search needs
 
--- src/answer.rt:26:30
 enum-told : tie.Need-enum-told
 enum-told c = search needs
 
--- src/answer.rt:26:30
 said-requires : tie.Need-said-requires
 said-requires c κs = search needs
 
--- src/answer.rt:26:25
 pack-requires : tie.Need-pack-requires
 pack-requires c κs = search needs
 
--- src/answer.rt:27:37
 enum-known-answer : tie.Need-enum-known-answer
 enum-known-answer c = search needs
 
--- src/answer.rt:28:30
 enum-known-place : tie.Need-enum-known-place
 enum-known-place c = search needs
 
--- src/answer.rt:28:65
 narrow-requires-2 : tie.Need-narrow-requires-2
 narrow-requires-2 c κs = search needs
 
--- src/answer.rt:28:77
 narrow-requires-3 : tie.Need-narrow-requires-3
 narrow-requires-3 c κs = search needs
 
--- src/answer.rt:28:48
 placed-requires : tie.Need-placed-requires
 placed-requires c κs = search needs
 
--- src/answer.rt:28:43
 pack-requires-2 : tie.Need-pack-requires-2
 pack-requires-2 c κs = search needs
 
--- src/answer.rt:29:27
 enum-known-place-2 : tie.Need-enum-known-place-2
 enum-known-place-2 c = search needs
 
--- src/answer.rt:29:57
 cast-placed : tie.Need-cast-placed
 cast-placed c = search needs
 
--- src/answer.rt:29:71
 narrow-requires-4 : tie.Need-narrow-requires-4
 narrow-requires-4 c κs = search needs
 
--- src/answer.rt:29:40
 placed-requires-2 : tie.Need-placed-requires-2
 placed-requires-2 c κs = search needs
 
--- src/answer.rt:29:35
 pack-requires-3 : tie.Need-pack-requires-3
 pack-requires-3 c κs = search needs
 
--- src/answer.rt:31:25
 enum-known-answer-2 : tie.Need-enum-known-answer-2
 enum-known-answer-2 c = search needs
 
--- src/answer.rt:31:42
 carried-requires : tie.Need-carried-requires
 carried-requires c κs = search needs
 
--- src/answer.rt:31:37
 pack-requires-4 : tie.Need-pack-requires-4
 pack-requires-4 c κs = search needs
 
--- src/answer.rt:20:1
 returns : tie.Need-returns
 unfolding answerOf
 returns c =
@@ -93,7 +67,6 @@ returns c =
     let known = says .before in
     c .pack .ensures ∙ ap packed (rw (says .said .ensures, known .before .before .narrow .ensures, known .enum-told .given .1))
 
--- src/answer.rt:20:1
 returns-2 : tie.Need-returns-2
 unfolding answerOf
 returns-2 c =
@@ -103,7 +76,6 @@ returns-2 c =
     c .pack2 .ensures
     ∙ ap packed (rw (says .placed .ensures, says .before .before .narrow2 .ensures, says .before .narrow3 .ensures, answer .before .before .narrow .ensures, answer .answer .given .1, place .place .given .1))
 
--- src/answer.rt:20:1
 returns-3 : tie.Need-returns-3
 unfolding answerOf
 returns-3 c =
@@ -113,7 +85,6 @@ returns-3 c =
     c .pack3 .ensures
     ∙ ap packed (rw (says .placed2 .ensures, says .before .narrow4 .ensures, answer .before .before .narrow .ensures, answer .answer .given .1, place .place2 .given .1))
 
--- src/answer.rt:20:1
 returns-4 : tie.Need-returns-4
 unfolding answerOf
 returns-4 c =

@@ -2,66 +2,46 @@
 use borrow.Author.Needs.{needs}
 use Rattle.host_log.proofs.head.head_of.Statement.{statement}
 use Rattle.host_log.proofs.head.head_of.Tie as tie
-use Rattle.host_log.proofs.head.head_of.Reads as reads
-use Rattle.host_log.proofs.head.head_of.Lts as lts
-use Rattle.base.proofs.narrow.Reads as narrow-reads
-use Rattle.host_log.proofs.head.bare.Reads as bare-reads
-use Rattle.host_log.proofs.head.number.Reads as number-reads
-use Rattle.host_log.proofs.head.stage_of.Reads as stage-of-reads
 
--- src/head.rt:91:13
 enum-known-reader : tie.Need-enum-known-reader
 enum-known-reader c = search needs
 
--- src/head.rt:94:14
 number-requires : tie.Need-number-requires
 number-requires c κs = search needs
 
--- src/head.rt:96:13
 enum-known-reader-2 : tie.Need-enum-known-reader-2
 enum-known-reader-2 c = search needs
 
--- src/head.rt:101:20
 narrow-requires : tie.Need-narrow-requires
 narrow-requires c κs = search needs
 
--- src/head.rt:102:19
 narrow-requires-2 : tie.Need-narrow-requires-2
 narrow-requires-2 c κs = search needs
 
--- src/head.rt:106:25
 enum-known-reader-3 : tie.Need-enum-known-reader-3
 enum-known-reader-3 c = search needs
 
--- src/head.rt:106:42
 stage-of-requires : tie.Need-stage-of-requires
 stage-of-requires c κs = search needs
 
--- src/head.rt:106:37
 bare-requires : tie.Need-bare-requires
 bare-requires c κs = search needs
 
--- src/head.rt:107:26
 enum-told : tie.Need-enum-told
 enum-told c = search needs
 
--- src/head.rt:107:26
 bare-requires-2 : tie.Need-bare-requires-2
 bare-requires-2 c κs = search needs
 
--- src/head.rt:86:1
 returns : tie.Need-returns
 returns c = rw (c .before .before .reader .given .1) (c .number .ensures)
 
--- src/head.rt:86:1
 returns-2 : tie.Need-returns-2
 returns-2 c = let k = c .before in rw (k .before .before .reader2 .given .1, k .narrow .ensures, c .narrow2 .ensures)
 
--- src/head.rt:86:1
 returns-3 : tie.Need-returns-3
 returns-3 c = let k = c .before in rw (k .before .before .reader3 .given .1, ← k .stage-of .ensures) (c .bare .ensures)
 
--- src/head.rt:86:1
 returns-4 : tie.Need-returns-4
 returns-4 c = rw (c .before .enum-told .given .1) (c .bare2 .ensures)
 

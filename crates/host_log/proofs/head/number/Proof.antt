@@ -2,30 +2,22 @@
 use borrow.Author.Needs.{needs}
 use Rattle.host_log.proofs.head.number.Statement.{statement}
 use Rattle.host_log.proofs.head.number.Tie as tie
-use Rattle.host_log.proofs.head.number.Reads as reads
-use Rattle.host_log.proofs.head.number.Lts as lts
 
--- src/head.rt:40:28
 enum-told : tie.Need-enum-told
 enum-told c = search needs
 
--- src/head.rt:47:28
 enum-told-2 : tie.Need-enum-told-2
 enum-told-2 c = search needs
 
--- src/head.rt:54:22
 enum-known-wanted : tie.Need-enum-known-wanted
 enum-known-wanted c = search needs
 
--- src/head.rt:36:1
 returns : tie.Need-returns
 returns c = simp (c .enum-told .given .1)
 
--- src/head.rt:36:1
 returns-2 : tie.Need-returns-2
 returns-2 c = simp (c .enum-told2 .given .1)
 
--- src/head.rt:36:1
 returns-3 : tie.Need-returns-3
 returns-3 c = simp (c .before .wanted .given .1)
 

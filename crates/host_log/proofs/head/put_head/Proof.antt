@@ -10,35 +10,25 @@ use mathlib.Core.Path.{ap, _∙_}
 use borrow.Author.Needs.{needs}
 use Rattle.host_log.proofs.head.put_head.Statement.{statement}
 use Rattle.host_log.proofs.head.put_head.Tie as tie
-use Rattle.host_log.proofs.head.put_head.Reads as reads
-use Rattle.host_log.proofs.head.put_head.Lts as lts
-use Rattle.numbers.proofs.put_u32.Reads as put-u32-reads
 
--- src/head.rt:115:5
 slice-write-state : tie.Need-slice-write-state
 slice-write-state c = search needs
 
--- src/head.rt:116:5
 slice-write-state-2 : tie.Need-slice-write-state-2
 slice-write-state-2 c = let room = c .before .pre in simp length-set (omega arith)
 
--- src/head.rt:117:5
 slice-write-state-3 : tie.Need-slice-write-state-3
 slice-write-state-3 c = let room = c .before .pre in simp length-set (omega arith)
 
--- src/head.rt:118:5
 put-u32-requires : tie.Need-put-u32-requires
 put-u32-requires c κs = search needs
 
--- src/head.rt:119:5
 put-u32-requires-2 : tie.Need-put-u32-requires-2
 put-u32-requires-2 c κs = search needs
 
--- src/head.rt:111:1
 same-length : tie.Need-same-length
 same-length c = c .before .before .put-u322 .kept .0 ∙ c .before .before .before .before .before .before .put-u32 .kept .0 ∙ simp length-set
 
--- src/head.rt:111:1
 returns : tie.Need-returns
 returns c =
     let u = c .before .before in

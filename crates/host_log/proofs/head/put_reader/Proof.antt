@@ -7,24 +7,16 @@ use mathlib.Core.Path.{ap, _∙_}
 use borrow.Author.Needs.{needs}
 use Rattle.host_log.proofs.head.put_reader.Statement.{statement}
 use Rattle.host_log.proofs.head.put_reader.Tie as tie
-use Rattle.host_log.proofs.head.put_reader.Reads as reads
-use Rattle.host_log.proofs.head.put_reader.Lts as lts
-use Rattle.host_log.proofs.head.head_of.Reads as head-of-reads
-use Rattle.host_log.proofs.head.put_head.Reads as put-head-reads
 
--- src/head.rt:127:21
 head-of-requires : tie.Need-head-of-requires
 head-of-requires c κs = search needs
 
--- src/head.rt:127:5
 put-head-requires : tie.Need-put-head-requires
 put-head-requires c κs = search needs
 
--- src/head.rt:123:1
 same-length : tie.Need-same-length
 same-length c = search needs
 
--- src/head.rt:123:1
 returns : tie.Need-returns
 returns c = let k = c .before .before in k .put-head .ensures ∙ ap (λ (h : Head). bytesOf h ++ drop placesAt (k .before .before .before .before .args .state .now)) (k .before .head-of .ensures)
 

@@ -4,36 +4,25 @@ use mathlib.Core.Path.{_∙_}
 use borrow.Author.Needs.{needs}
 use Rattle.host_log.proofs.head.reader_in.Statement.{statement}
 use Rattle.host_log.proofs.head.reader_in.Tie as tie
-use Rattle.host_log.proofs.head.reader_in.Reads as reads
-use Rattle.host_log.proofs.head.reader_in.Lts as lts
-use Rattle.host_log.proofs.head.reader_of.Reads as reader-of-reads
-use Rattle.numbers.proofs.get_u32.Reads as get-u32-reads
 
--- src/head.rt:179:16
 shared-slice-read-t3 : tie.Need-shared-slice-read-t3
 shared-slice-read-t3 c = search needs
 
--- src/head.rt:180:16
 shared-slice-read-t5 : tie.Need-shared-slice-read-t5
 shared-slice-read-t5 c = search needs
 
--- src/head.rt:181:15
 shared-slice-read-t7 : tie.Need-shared-slice-read-t7
 shared-slice-read-t7 c = search needs
 
--- src/head.rt:182:16
 get-u32-requires : tie.Need-get-u32-requires
 get-u32-requires c κs = search needs
 
--- src/head.rt:183:18
 get-u32-requires-2 : tie.Need-get-u32-requires-2
 get-u32-requires-2 c κs = search needs
 
--- src/head.rt:178:5
 reader-of-requires : tie.Need-reader-of-requires
 reader-of-requires c κs = search needs
 
--- src/head.rt:174:1
 returns : tie.Need-returns
 unfolding headIn
 returns c = let g = c .before in let f = g .before in c .reader-of .ensures ∙ rw (f .get-u32 .ensures, g .get-u322 .ensures)

@@ -3,45 +3,33 @@ use borrow.Author.Tests.{eq-eqb, ne-eqb}
 use borrow.Author.Needs.{needs}
 use Rattle.host_log.proofs.head.reader_of.Statement.{statement}
 use Rattle.host_log.proofs.head.reader_of.Tie as tie
-use Rattle.host_log.proofs.head.reader_of.Reads as reads
-use Rattle.host_log.proofs.head.reader_of.Lts as lts
-use Rattle.base.proofs.wide.Reads as wide-reads
 
--- src/head.rt:137:9
 returns : tie.Need-returns
 returns c = simp (eq-eqb _ _ (c .if1 .taken))
 
--- src/head.rt:144:9
 returns-2 : tie.Need-returns-2
 returns-2 c = simp (ne-eqb _ _ (c .before .before .if1 .left), eq-eqb _ _ (c .if2 .taken))
 
--- src/head.rt:151:9
 returns-3 : tie.Need-returns-3
 returns-3 c = simp (ne-eqb _ _ (c .before .before .before .before .if1 .left), ne-eqb _ _ (c .before .before .if2 .left), eq-eqb _ _ (c .if3 .taken))
 
--- src/head.rt:160:19
 wide-requires : tie.Need-wide-requires
 wide-requires c κs = search needs
 
--- src/head.rt:161:19
 wide-requires-2 : tie.Need-wide-requires-2
 wide-requires-2 c κs = search needs
 
--- src/head.rt:158:9
 returns-4 : tie.Need-returns-4
 returns-4 c =
     rw (c .before .wide .ensures .0, c .wide2 .ensures .0) (simp (ne-eqb _ _ (c .before .before .before .before .before .before .before .before .if1 .left), ne-eqb _ _ (c .before .before .before .before .before .before .if2 .left), ne-eqb _ _ (c .before .before .before .before .if3 .left), eq-eqb _ _ (c .before .before .if4 .taken)))
 
--- src/head.rt:165:9
 returns-5 : tie.Need-returns-5
 returns-5 c = simp (ne-eqb _ _ (c .before .before .before .before .before .before .before .before .if1 .left), ne-eqb _ _ (c .before .before .before .before .before .before .if2 .left), ne-eqb _ _ (c .before .before .before .before .if3 .left), ne-eqb _ _ (c .before .before .if4 .left), eq-eqb _ _ (c .if5 .taken))
 
--- src/head.rt:168:9
 returns-6 : tie.Need-returns-6
 returns-6 c =
     simp (ne-eqb _ _ (c .before .before .before .before .before .before .before .before .before .before .if1 .left), ne-eqb _ _ (c .before .before .before .before .before .before .before .before .if2 .left), ne-eqb _ _ (c .before .before .before .before .before .before .if3 .left), ne-eqb _ _ (c .before .before .before .before .if4 .left), ne-eqb _ _ (c .before .before .if5 .left), eq-eqb _ _ (c .if6 .taken))
 
--- src/head.rt:130:1
 returns-7 : tie.Need-returns-7
 returns-7 c =
     simp (ne-eqb _ _ (c .before .before .before .before .before .before .before .before .before .before .if1 .left), ne-eqb _ _ (c .before .before .before .before .before .before .before .before .if2 .left), ne-eqb _ _ (c .before .before .before .before .before .before .if3 .left), ne-eqb _ _ (c .before .before .before .before .if4 .left), ne-eqb _ _ (c .before .before .if5 .left), ne-eqb _ _ (c .if6 .left))

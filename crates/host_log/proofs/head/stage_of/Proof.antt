@@ -5,20 +5,14 @@ use mathlib.Core.Path.{sym, ap, _∙_}
 use borrow.Author.Needs.{needs}
 use Rattle.host_log.proofs.head.stage_of.Statement.{statement}
 use Rattle.host_log.proofs.head.stage_of.Tie as tie
-use Rattle.host_log.proofs.head.stage_of.Reads as reads
-use Rattle.host_log.proofs.head.stage_of.Lts as lts
-use Rattle.refusals.proofs.row_of.Reads as row-of-reads
 
--- src/head.rt:67:9
 row-of-requires : tie.Need-row-of-requires
 row-of-requires c κs = search needs
 
--- src/head.rt:69:9
 returns : tie.Need-returns
 returns c =
     let k = c .before .before in let e = ap (λ (x : Row). x .number) (k .row-of .ensures) in simp (eq-eqb _ _ (sym e ∙ c .if1 .taken))
 
--- src/head.rt:64:1
 returns-2 : tie.Need-returns-2
 returns-2 c =
     let k = c .before .before in let e = ap (λ (x : Row). x .number) (k .row-of .ensures) in simp (ne-eqb _ _ (λ q. c .if1 .left (e ∙ q)))

@@ -4,67 +4,50 @@ use Rattle.log_reader.proofs.Readers.{few-groups, goes-fits, goes-few, 
 use borrow.Author.Needs.{needs}
 use Rattle.log_reader.proofs.number.feed_number.Statement.{statement}
 use Rattle.log_reader.proofs.number.feed_number.Tie as tie
-use Rattle.log_reader.proofs.number.feed_number.Reads as reads
-use Rattle.log_reader.proofs.number.feed_number.Lts as lts
-use Rattle.groups.proofs.next.Reads as next-reads
-use Rattle.log_reader.proofs.number.meant.Reads as meant-reads
-use Rattle.log_reader.proofs.number.weight_of.Reads as weight-of-reads
 
--- src/number.rt:77:53
 weight-of-requires : tie.Need-weight-of-requires
 weight-of-requires c κs = few-groups (c .args .value) (c .args .groups) (c .pre)
 
--- src/number.rt:77:9
 next-requires : tie.Need-next-requires
 next-requires c κs = search needs
 
--- src/number.rt:79:31
 enum-known-step : tie.Need-enum-known-step
 enum-known-step c = search needs
 
--- src/number.rt:81:20
 cast-t11 : tie.Need-cast-t11
 cast-t11 c =
     let n = c .before .before .before in let s = n .before .before in let a = s .args in 
     let h = goes-fits (a .wanted) (a .value) (a .groups) (a .byte) (s .pre) (n .before .weight-of .ensures) (n .next .ensures) (search needs) (c .before .step .given .1) in omega arith
 
--- src/number.rt:82:21
 add-t12 : tie.Need-add-t12
 add-t12 c =
     let n = c .before .before .before in let s = n .before .before in let a = s .args in 
     let h = goes-few (a .wanted) (a .value) (a .groups) (a .byte) (s .pre) (n .before .weight-of .ensures) (n .next .ensures) (search needs) (c .before .step .given .1) in omega arith
 
--- src/number.rt:84:20
 enum-known-step-2 : tie.Need-enum-known-step-2
 enum-known-step-2 c = search needs
 
--- src/number.rt:84:40
 cast-meant : tie.Need-cast-meant
 cast-meant c =
     let n = c .before .before .before in let s = n .before .before in let a = s .args in 
     let h = number-small (a .wanted) (a .value) (a .groups) (a .byte) (s .pre) (n .before .weight-of .ensures) (n .next .ensures) (c .before .step2 .given .1) in omega arith
 
--- src/number.rt:84:26
 meant-requires : tie.Need-meant-requires
 meant-requires c κs = search needs
 
--- src/number.rt:85:44
 enum-told : tie.Need-enum-told
 enum-told c = search needs
 
--- src/number.rt:73:1
 returns : tie.Need-returns
 returns c =
     let n = c .before .before .before in let s = n .before .before in let a = s .args in 
     number-goes (a .wanted) (a .value) (a .groups) (a .byte) (s .pre) (n .before .weight-of .ensures) (n .next .ensures) (search needs) (c .before .step .given .1)
 
--- src/number.rt:73:1
 returns-2 : tie.Need-returns-2
 returns-2 c =
     let n = c .before .before .before .before in let s = n .before .before in let a = s .args in 
     number-done (a .wanted) (a .value) (a .groups) (a .byte) (s .pre) (n .before .weight-of .ensures) (n .next .ensures) (c .before .before .step2 .given .1) (c .meant .ensures)
 
--- src/number.rt:73:1
 returns-3 : tie.Need-returns-3
 returns-3 c =
     let n = c .before .before in let s = n .before .before in let a = s .args in 

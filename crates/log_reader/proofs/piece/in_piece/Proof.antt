@@ -9,121 +9,88 @@ use Rattle.log_reader.proofs.Pieces.{piece-unlisted, piece-second, piec
 use borrow.Author.Needs.{needs}
 use Rattle.log_reader.proofs.piece.in_piece.Statement.{statement}
 use Rattle.log_reader.proofs.piece.in_piece.Tie as tie
-use Rattle.log_reader.proofs.piece.in_piece.Reads as reads
-use Rattle.log_reader.proofs.piece.in_piece.Lts as lts
-use Rattle.base.proofs.wide.Reads as wide-reads
-use Rattle.crc.proofs.checked.Reads as checked-reads
-use Rattle.log_reader.proofs.number.number_of.Reads as number-of-reads
-use Rattle.log_reader.proofs.piece.no_frame.Reads as no-frame-reads
-use Rattle.packets.proofs.is_address.Reads as is-address-reads
 
 address : (c : tie.Else1) → (let a = c .before .before .before .before .args in listed (getD (a .input .now) (a .i) 0) ≡ true)
 address c = sym (c .before .is-address .ensures) ∙ not-false _ (c .if1 .left)
 
--- src/piece.rt:34:20
 shared-slice-read-is-address : tie.Need-shared-slice-read-is-address
 shared-slice-read-is-address c = search needs
 
--- src/piece.rt:34:9
 is-address-requires : tie.Need-is-address-requires
 is-address-requires c κs = search needs
 
--- src/piece.rt:35:25
 add-no-frame : tie.Need-add-no-frame
 add-no-frame c = search needs
 
--- src/piece.rt:35:9
 no-frame-requires : tie.Need-no-frame-requires
 no-frame-requires c κs = search needs
 
--- src/piece.rt:35:9
 returns : tie.Need-returns
 returns c =
     let s = c .before .before .before .before .before in let a = s .args in piece-unlisted (a .seconds) (a .size) (a .input .now) (a .i) (s .pre .0) (s .pre .1 .0) (s .pre .1 .1) (sym (c .before .before .is-address .ensures) ∙ not-true _ (c .before .if1 .taken)) (c .no-frame .ensures)
 
--- src/piece.rt:37:19
 add-wide : tie.Need-add-wide
 add-wide c = search needs
 
--- src/piece.rt:37:13
 shared-slice-read-wide : tie.Need-shared-slice-read-wide
 shared-slice-read-wide c = search needs
 
--- src/piece.rt:37:8
 wide-requires : tie.Need-wide-requires
 wide-requires c κs = search needs
 
--- src/piece.rt:37:8
 add-if2 : tie.Need-add-if2
 add-if2 c = search needs
 
--- src/piece.rt:38:25
 add-no-frame-2 : tie.Need-add-no-frame-2
 add-no-frame-2 c = search needs
 
--- src/piece.rt:38:9
 no-frame-requires-2 : tie.Need-no-frame-requires-2
 no-frame-requires-2 c κs = search needs
 
--- src/piece.rt:38:9
 returns-2 : tie.Need-returns-2
 returns-2 c =
     let s = c .before .before .before .before .before .before .before .before in let a = s .args in piece-second (a .seconds) (a .size) (a .input .now) (a .i) (s .pre .0) (s .pre .1 .0) (s .pre .1 .1) (address (c .before .before .before .before)) (λ e. c .before .if2 .taken (ap (λ (x : ℕ). x + 2) (c .before .before .wide .ensures .0) ∙ e)) (c .no-frame2 .ensures)
 
--- src/piece.rt:40:15
 add-end : tie.Need-add-end
 add-end c = search needs
 
--- src/piece.rt:41:17
 add-start : tie.Need-add-start
 add-start c = search needs
 
--- src/piece.rt:42:16
 sub-last : tie.Need-sub-last
 sub-last c = search needs
 
--- src/piece.rt:43:19
 shared-slice-read-carried : tie.Need-shared-slice-read-carried
 shared-slice-read-carried c = search needs
 
--- src/piece.rt:44:25
 sub-checked : tie.Need-sub-checked
 sub-checked c = search needs
 
--- src/piece.rt:44:25
 part-checked-start : tie.Need-part-checked-start
 part-checked-start c = search needs
 
--- src/piece.rt:44:25
 part-checked-end : tie.Need-part-checked-end
 part-checked-end c = search needs
 
--- src/piece.rt:44:9
 checked-requires : tie.Need-checked-requires
 checked-requires c κs = search needs
 
--- src/piece.rt:47:31
 enum-told : tie.Need-enum-told
 enum-told c = search needs
 
--- src/piece.rt:47:21
 number-of-requires : tie.Need-number-of-requires
 number-of-requires c κs = search needs
 
--- src/piece.rt:54:32
 enum-told-2 : tie.Need-enum-told-2
 enum-told-2 c = search needs
 
--- src/piece.rt:54:32
 no-frame-requires-3 : tie.Need-no-frame-requires-3
 no-frame-requires-3 c κs = search needs
 
--- src/piece.rt:30:1
 returns-3 : tie.Need-returns-3
 returns-3 c =
     let s = c .before .before .before .before .before .before .before .before .before .before .before .before .before in let a = s .args in piece-right (a .seconds) (a .size) (a .input .now) (a .i) (s .pre .0) (s .pre .1 .0) (s .pre .1 .1) (address (c .before .before .before .before .before .before .before .before .before)) (ap (λ (x : ℕ). x + 2) (sym (c .before .before .before .before .before .before .before .wide .ensures .0)) ∙ c .before .before .before .before .before .before .if2 .left) (c .before .before .before .checked .ensures) (c .before .enum-told .given .1) (c .number-of .ensures)
 
--- src/piece.rt:30:1
 returns-4 : tie.Need-returns-4
 returns-4 c =
     let s = c .before .before .before .before .before .before .before .before .before .before .before .before .before in let a = s .args in piece-wrong (a .seconds) (a .size) (a .input .now) (a .i) (s .pre .0) (s .pre .1 .0) (s .pre .1 .1) (address (c .before .before .before .before .before .before .before .before .before)) (ap (λ (x : ℕ). x + 2) (sym (c .before .before .before .before .before .before .before .wide .ensures .0)) ∙ c .before .before .before .before .before .before .if2 .left) (c .before .before .before .checked .ensures) (c .before .enum-told2 .given .1) (c .no-frame3 .ensures)

@@ -3,56 +3,41 @@ use Rattle.log_reader.proofs.Turns.{number-state, turn-number, turn-fra
 use borrow.Author.Needs.{needs}
 use Rattle.log_reader.proofs.run.feed.Statement.{statement}
 use Rattle.log_reader.proofs.run.feed.Tie as tie
-use Rattle.log_reader.proofs.run.feed.Reads as reads
-use Rattle.log_reader.proofs.run.feed.Lts as lts
-use Rattle.log_reader.proofs.held.feed_frame.Reads as feed-frame-reads
-use Rattle.log_reader.proofs.number.feed_number.Reads as feed-number-reads
 
--- src/run.rt:92:13
 enum-known-reader : tie.Need-enum-known-reader
 enum-known-reader c = search needs
 
--- src/run.rt:95:23
 feed-number-requires : tie.Need-feed-number-requires
 feed-number-requires c κs =
     let s = c .before .before .before .before in number-state (s .args .places .now) (s .args .reader) (s .args .byte) (s .pre) (c .before .reader .given .1)
 
--- src/run.rt:97:13
 enum-known-reader-2 : tie.Need-enum-known-reader-2
 enum-known-reader-2 c = search needs
 
--- src/run.rt:100:14
 feed-frame-requires : tie.Need-feed-frame-requires
 feed-frame-requires c κs = let s = c .before .before .before .before .before in rw (c .before .before .reader2 .given .1) at (s .pre)
 
--- src/run.rt:101:25
 enum-known-reader-3 : tie.Need-enum-known-reader-3
 enum-known-reader-3 c = search needs
 
--- src/run.rt:102:51
 enum-told : tie.Need-enum-told
 enum-told c = search needs
 
--- src/run.rt:86:1
 returns : tie.Need-returns
 returns c =
     let s = c .before .before .before .before .before in turn-number (s .args .places .now) (s .args .reader) (s .args .byte) (s .pre) (c .before .before .reader .given .1) (c .feed-number .ensures)
 
--- src/run.rt:86:1
 same-length : tie.Need-same-length
 same-length c = search needs
 
--- src/run.rt:86:1
 returns-2 : tie.Need-returns-2
 returns-2 c =
     let s = c .before .before .before .before .before .before .before .before in turn-frame (s .args .places .now) (s .args .reader) (s .args .byte) (s .pre) (c .before .before .before .before .before .reader2 .given .1) (c .before .before .feed-frame .ensures)
 
--- src/run.rt:86:1
 returns-3 : tie.Need-returns-3
 returns-3 c =
     let s = c .before .before .before .before in turn-refused (s .args .places .now) (s .args .reader) (s .args .byte) (s .pre) (c .before .reader3 .given .1)
 
--- src/run.rt:86:1
 returns-4 : tie.Need-returns-4
 returns-4 c =
     let s = c .before .before .before in turn-ended (s .args .places .now) (s .args .reader) (s .args .byte) (s .pre) (c .enum-told .given .1)

@@ -11,15 +11,6 @@ use Rattle.log_reader.proofs.Late.{Fresh}
 use Rattle.log_reader.proofs.Pieces.{fresh-begun, fresh-late, going-piece}
 use Rattle.log_reader.proofs.run.run.Statement.{statement}
 use Rattle.log_reader.proofs.run.run.Tie as tie
-use Rattle.log_reader.proofs.run.run.Reads as reads
-use Rattle.log_reader.proofs.run.run.Lts as lts
-use Rattle.log_reader.proofs.run.answer_at.Reads as answer-at-reads
-use Rattle.log_reader.proofs.run.feed.Reads as feed-reads
-use Rattle.log_reader.proofs.run.fresh_of.Reads as fresh-of-reads
-use Rattle.log_reader.proofs.piece.in_piece.Reads as in-piece-reads
-use Rattle.log_reader.proofs.number.number_of.Reads as number-of-reads
-use Rattle.log_reader.proofs.run.refusal_at.Reads as refusal-at-reads
-use Rattle.log_reader.proofs.run.stopped.Reads as stopped-reads
 
 abbrev Inv-loop : tie.InvT-loop
 Inv-loop places₀ input at₀ i₀ places at i = Going places₀ at₀ input places at i
