@@ -1,0 +1,70 @@
+// Entries as they are written, and the log of them all.
+use crate::feed::put_behind;
+use crate::show::number;
+use crate::show::refusal;
+use crate::show::spelled;
+use crate::show::text;
+use base::part_of;
+use log_writer::put_entry;
+use refusals::row_of;
+use writing::Written;
+
+// Both sides of the numbers of one group and of two, and the ends.
+fn seconds_of(which: u8) -> u32 {
+    match which {
+        0 => 0,
+        1 => 127,
+        2 => 128,
+        3 => 16383,
+        4 => 16384,
+        _ => 4294967295,
+    }
+}
+
+fn show_written(written: Written, out: &[u8]) {
+    match written {
+        Written::Wrote(n) => spelled(part_of(out, 0, n)),
+        Written::Refused(why) => {
+            let row = row_of(why);
+            refusal(row.number);
+        }
+    }
+}
+
+// How many bytes an entry takes up, or none.
+fn size_of(written: Written) -> usize {
+    match written {
+        Written::Wrote(n) => n,
+        Written::Refused(_) => 0,
+    }
+}
+
+fn show_in(seconds: u32, frame: &[u8], room: usize) {
+    let mut space = [0u8; 72];
+    if room <= 72 {
+        let written = put_entry(seconds, frame, &mut space[..room]);
+        text(b", in ");
+        number(room as u64);
+        text(b" bytes ");
+        show_written(written, &space);
+    }
+}
+
+// One entry: as written where there is room, with one byte less, and in no bytes. How many bytes the log of all entries so far has.
+pub fn line(which: u8, frame: &[u8], log: &mut [u8], at: usize) -> usize {
+    let seconds = seconds_of(which);
+    number(seconds as u64);
+    text(b" ");
+    spelled(frame);
+    text(b": ");
+    let mut space = [0u8; 72];
+    let written = put_entry(seconds, frame, &mut space);
+    show_written(written, &space);
+    let n = size_of(written);
+    if 0 < n {
+        show_in(seconds, frame, n - 1);
+    }
+    show_in(seconds, frame, 0);
+    text(b"\n");
+    put_behind(log, at, seconds, frame)
+}
