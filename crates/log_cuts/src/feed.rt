@@ -37,7 +37,8 @@ pub fn least(a: usize, b: usize) -> usize
     if a < b { a } else { b }
 }
 
-fn count(written: Written) -> usize {
+// How many bytes were written, or none.
+pub fn count(written: Written) -> usize {
     match written {
         Written::Wrote(n) => n,
         Written::Refused(_) => 0,

@@ -1,4 +1,5 @@
 // Entries as they are written, and the log of them all.
+use crate::feed::count;
 use crate::feed::put_behind;
 use crate::show::number;
 use crate::show::refusal;
@@ -31,23 +32,22 @@ fn show_written(written: Written, out: &[u8]) {
     }
 }
 
-// How many bytes an entry takes up, or none.
-fn size_of(written: Written) -> usize {
-    match written {
-        Written::Wrote(n) => n,
-        Written::Refused(_) => 0,
+// In the last so many of these places.
+fn put_in(seconds: u32, frame: &[u8], space: &mut [u8], room: usize) -> Written {
+    let n = space.len();
+    if n < room {
+        return put_entry(seconds, frame, space);
     }
+    let from = n - room;
+    put_entry(seconds, frame, &mut space[from..])
 }
 
 fn show_in(seconds: u32, frame: &[u8], room: usize) {
     let mut space = [0u8; 72];
-    if room <= 72 {
-        let written = put_entry(seconds, frame, &mut space[..room]);
-        text(b", in ");
-        number(room as u64);
-        text(b" bytes ");
-        show_written(written, &space);
-    }
+    text(b", in ");
+    number(room as u64);
+    text(b" bytes ");
+    show_written(put_in(seconds, frame, &mut space, room), &space);
 }
 
 // One entry: as written where there is room, with one byte less, and in no bytes. How many bytes the log of all entries so far has.
@@ -60,7 +60,7 @@ pub fn line(which: u8, frame: &[u8], log: &mut [u8], at: usize) -> usize {
     let mut space = [0u8; 72];
     let written = put_entry(seconds, frame, &mut space);
     show_written(written, &space);
-    let n = size_of(written);
+    let n = count(written);
     if 0 < n {
         show_in(seconds, frame, n - 1);
     }
