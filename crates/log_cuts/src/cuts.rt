@@ -2,10 +2,10 @@
 // written again, are that log.
 use crate::feed::Seen;
 use crate::feed::read_in;
-use crate::show::number;
-use crate::show::refusal;
+use crate::show::labelled;
 use crate::show::spelled;
 use crate::show::text;
+use crate::show::wide64;
 use base::part_of;
 ghost use Prim.Native.Nat.{_≤_};
 
@@ -29,8 +29,7 @@ fn show_agrees(log: &[u8], size: usize, before: Seen, out: &[u8])
     if agrees(log, size, before, out) {
         return;
     }
-    text(b", ANOTHER in pieces of ");
-    number(size as u64);
+    labelled(b", ANOTHER in pieces of ", size as u64);
 }
 
 fn show_again(log: &[u8], seen: Seen, out: &[u8]) {
@@ -43,21 +42,27 @@ fn show_again(log: &[u8], seen: Seen, out: &[u8]) {
     }
 }
 
+fn show_seen(seen: Seen) {
+    labelled(b" taken ", seen.taken as u64);
+    labelled(b", end ", wide64(seen.end));
+}
+
+fn show_cuts(log: &[u8], seen: Seen, out: &[u8]) {
+    show_agrees(log, 2, seen, out);
+    show_agrees(log, 5, seen, out);
+    show_agrees(log, 16, seen, out);
+    show_agrees(log, 71, seen, out);
+    show_agrees(log, 4096, seen, out);
+}
+
 // In pieces of 1 byte, and then of other sizes.
 pub fn line(log: &[u8]) {
     let mut out = [0u8; 512];
     spelled(log);
     text(b":");
     let seen = read_in(log, 1, &mut out, true);
-    text(b" taken ");
-    number(seen.taken as u64);
-    text(b", end ");
-    refusal(seen.end);
-    show_agrees(log, 2, seen, &out);
-    show_agrees(log, 5, seen, &out);
-    show_agrees(log, 16, seen, &out);
-    show_agrees(log, 71, seen, &out);
-    show_agrees(log, 4096, seen, &out);
+    show_seen(seen);
+    show_cuts(log, seen, &out);
     show_again(log, seen, &out);
     text(b"\n");
 }

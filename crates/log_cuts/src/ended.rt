@@ -1,10 +1,11 @@
 // What is said once a log has ended: a second end, an empty piece, a byte, and an end after that.
 use crate::feed::end_number;
 use crate::feed::feed;
+use crate::show::labelled;
 use crate::show::number;
-use crate::show::refusal;
 use crate::show::spelled;
 use crate::show::text;
+use crate::show::wide64;
 use log_reader::Answer;
 use log_reader::Reader;
 use log_reader::end;
@@ -14,8 +15,7 @@ use refusals::row_of;
 fn show_end(places: &[u8], reader: Reader) -> Reader {
     let closed = end(places, reader);
     let ending = closed.ending;
-    text(b", end ");
-    refusal(end_number(ending));
+    labelled(b", end ", wide64(end_number(ending)));
     closed.reader
 }
 
@@ -25,7 +25,7 @@ fn show_answer(answer: Answer) {
         Answer::Entry { .. } => text(b"an entry"),
         Answer::Refused(why) => {
             let row = row_of(why);
-            refusal(row.number);
+            number(wide64(row.number));
         }
     }
 }
@@ -37,9 +37,17 @@ fn show_piece(places: &mut [u8], reader: Reader, piece: &[u8]) -> Reader {
     spelled(piece);
     text(b"- ");
     show_answer(answer);
-    text(b" taken ");
-    number(answered.taken as u64);
+    labelled(b" taken ", answered.taken as u64);
     answered.reader
+}
+
+fn show_after(places: &mut [u8], reader: Reader) {
+    let first = show_end(places, reader);
+    let second = show_end(places, first);
+    let empty = show_piece(places, second, b"");
+    let byte = show_piece(places, empty, b"\x01");
+    let last = show_piece(places, byte, b"");
+    show_end(places, last);
 }
 
 pub fn line(log: &[u8]) {
@@ -49,13 +57,7 @@ pub fn line(log: &[u8]) {
     text(b":");
     let fed = feed(&mut places, log, 4096, &mut out, true);
     let reader = fed.reader;
-    text(b" taken ");
-    number(fed.taken as u64);
-    let a = show_end(&places, reader);
-    let b = show_end(&places, a);
-    let c = show_piece(&mut places, b, b"");
-    let d = show_piece(&mut places, c, b"\x01");
-    let e = show_piece(&mut places, d, b"");
-    show_end(&places, e);
+    labelled(b" taken ", fed.taken as u64);
+    show_after(&mut places, reader);
     text(b"\n");
 }

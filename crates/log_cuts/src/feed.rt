@@ -1,6 +1,6 @@
 // A log read in pieces of one size. Each entry is written again as it comes, behind those before: so two readings gave the same entries exactly if they
 // left the same bytes, and those of an accepted log are that log.
-use crate::show::number;
+use crate::show::labelled;
 use crate::show::spelled;
 use crate::show::text;
 use base::part_of;
@@ -60,8 +60,7 @@ pub fn put_first(out: &mut [u8]) -> usize {
 }
 
 fn show_entry(seconds: u32, bytes: &[u8]) {
-    text(b" ");
-    number(seconds as u64);
+    labelled(b" ", seconds as u64);
     text(b" ");
     spelled(bytes);
     text(b",");

@@ -9,12 +9,14 @@ pub fn number(n: u64) {
     io::print_decimal(STDOUT_FILENO, n);
 }
 
-fn wide64(b: u8) -> u64 {
+pub fn wide64(b: u8) -> u64 {
     b as u64
 }
 
-pub fn refusal(n: u8) {
-    number(wide64(n));
+// Words, and then a number.
+pub fn labelled(words: &[u8], n: u64) {
+    text(words);
+    number(n);
 }
 
 // In hexadecimal.

@@ -1,10 +1,11 @@
 // Entries as they are written, and the log of them all.
 use crate::feed::count;
 use crate::feed::put_behind;
+use crate::show::labelled;
 use crate::show::number;
-use crate::show::refusal;
 use crate::show::spelled;
 use crate::show::text;
+use crate::show::wide64;
 use base::part_of;
 use log_writer::put_entry;
 use refusals::row_of;
@@ -27,7 +28,7 @@ fn show_written(written: Written, out: &[u8]) {
         Written::Wrote(n) => spelled(part_of(out, 0, n)),
         Written::Refused(why) => {
             let row = row_of(why);
-            refusal(row.number);
+            number(wide64(row.number));
         }
     }
 }
@@ -44,19 +45,22 @@ fn put_in(seconds: u32, frame: &[u8], space: &mut [u8], room: usize) -> Written 
 
 fn show_in(seconds: u32, frame: &[u8], room: usize) {
     let mut space = [0u8; 72];
-    text(b", in ");
-    number(room as u64);
+    labelled(b", in ", room as u64);
     text(b" bytes ");
     show_written(put_in(seconds, frame, &mut space, room), &space);
+}
+
+fn show_asked(seconds: u32, frame: &[u8]) {
+    number(seconds as u64);
+    text(b" ");
+    spelled(frame);
+    text(b": ");
 }
 
 // One entry: as written where there is room, with one byte less, and in no bytes. How many bytes the log of all entries so far has.
 pub fn line(which: u8, frame: &[u8], log: &mut [u8], at: usize) -> usize {
     let seconds = seconds_of(which);
-    number(seconds as u64);
-    text(b" ");
-    spelled(frame);
-    text(b": ");
+    show_asked(seconds, frame);
     let mut space = [0u8; 72];
     let written = put_entry(seconds, frame, &mut space);
     show_written(written, &space);
