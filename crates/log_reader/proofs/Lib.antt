@@ -4,3 +4,4 @@ pub mod Late
 pub mod Turns
 pub mod Pieces
 pub mod Sessions
+pub mod Reached
