@@ -5,3 +5,5 @@ pub mod Turns
 pub mod Pieces
 pub mod Sessions
 pub mod Reached
+pub mod Known
+pub mod Unique
