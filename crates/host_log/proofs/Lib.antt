@@ -2,3 +2,4 @@
 pub mod Heads
 pub mod States
 pub mod Fits
+pub mod Again

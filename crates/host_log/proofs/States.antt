@@ -83,7 +83,7 @@ module _ (s : List ℕ) (fits : length s ≡ size) where
   unfolding isState
   formed e r-is p-is x-is = x-is ∙ ap₂ reader.isState p-is r-is ∙ sym (simp e)
 
-places-of : (h : Head) (p : List ℕ) → drop placesAt (bytesOf h ++ p) ≡ p
+pub places-of : (h : Head) (p : List ℕ) → drop placesAt (bytesOf h ++ p) ≡ p
 places-of h p = drop-at (bytesOf h) p placesAt (length-head h)
 
 -- ---- a call

@@ -7,3 +7,4 @@ pub mod Laws
 pub mod Edges
 pub mod Weights
 pub mod Room
+pub mod Small

@@ -7,6 +7,7 @@ use lib.Dec.{eqb}
 use lib.ListN.{length}
 use Rattle.base.specs.Choice.{if_then_else_}
 use Rattle.reading.specs.Reading.{limit}
+use Rattle.log.specs.Entry.{greatest}
 use Rattle.log.specs.Reading.{Want, version, seconds, size, State, number, frame, refused, ended}
 
 -- that many groups have come, where the next is worth w
@@ -32,3 +33,15 @@ most (number want v w) led = mostIn want (led .groups)
 most (frame t n h) led = n - length h
 most (refused r) led = 0
 most ended led = 0
+
+-- the seconds of an entry that is begun are a number of a log
+abbrev pub Behind : Want → Type 0
+Behind version = Unit {0}
+Behind seconds = Unit {0}
+Behind (size t) = t ≤ greatest
+
+abbrev pub Small : State → Type 0
+Small (number want v w) = Behind want
+Small (frame t n h) = t ≤ greatest
+Small (refused r) = Unit {0}
+Small ended = Unit {0}
