@@ -3,3 +3,5 @@ pub mod Heads
 pub mod States
 pub mod Fits
 pub mod Again
+pub mod Sessions
+pub mod Unique

@@ -139,11 +139,15 @@ runs-seen {before} {input} {after} {st} {r} runs =
     all-seen (sym (reader-back after (r .reader) (runs .stands)) ∙ ap readerAt state) taken (back .0 ∙ ap₂ answerAt taken said)
     (held-is after (r .reader) ∙ ap heldAt state) (back .1 ∙ ap₂ amongAt taken said)
 
+pub one-run : {before input after after′ : List ℕ} {st : Reader} {r r′ : Answered} → Runs before st input after r → Runs before st input after′ r′
+    → seen true after r ≡ seen true after′ r′
+one-run x y = runs-seen x ∙ sym (runs-seen y)
+
 pub one-call : (before : List ℕ) (st : Reader) (input : List ℕ) {after after′ : List ℕ} {r r′ : Answered}
     → Nexts before st input after r → Nexts before st input after′ r′ → seen (isState before st) after r ≡ seen (isState before st) after′ r′
 one-call before st input {after} {after′} {r} {r′} x y =
     by-test (isState before st)
-    (λ e. rw e (runs-seen (x .runs e) ∙ sym (runs-seen (y .runs e))))
+    (λ e. rw e (one-run (x .runs e) (y .runs e)))
     (λ e.
     let a = x .refuses e in
     let b = y .refuses e in

@@ -1,11 +1,10 @@
 -- Each public function's promise leaves one answer. `Post` is what the prover reads off the source's own `ensures`, so a weaker clause there breaks
 -- its line here. Assumes nothing.
-use mathlib.Core.Path.{_≡_}
 use mathlib.Core.Bool.{Bool}
 use mathlib.Core.List.{List}
 use Prim.Native.Nat.{ℕ}
 use denote.Ref.{now}
-use Rattle.base.proofs.Unique.{OneAnswer, same}
+use Rattle.base.proofs.Unique.{OneAnswer, OneAnswerOver, same}
 use Rattle.log_reader.specs.State.{isState}
 use Rattle.log_reader.specs.Seen.{Seen, seen}
 use Rattle.log_reader.specs.declared.Reader.{Reader}
@@ -28,12 +27,6 @@ end-one κs a r r′ s s′ = one-end _ _
 
 pub frame-one : OneAnswer {Seen = List ℕ} frame.Post (λ κs r s. now r)
 frame-one κs a r r′ s s′ = same
-
--- the same as `OneAnswer`, where what is seen depends on whether there was a state
-abbrev OneAnswerOver :
-    {L : Type 0} {A R S : L → Type 0} {Seen : Type 0} → ((κs : L) → A κs → R κs → S κs → Type 0) → ((κs : L) → A κs → R κs → S κs → Seen) → Type 0
-OneAnswerOver {L} {A} {R} {S} Post seen =
-    (κs : L) (a : A κs) (r r′ : R κs) (s s′ : S κs) → Post κs a r s → Post κs a r′ s′ → seen κs a r s ≡ seen κs a r′ s′
 
 pub next-one : OneAnswerOver {Seen = Seen} next.Post (λ κs a r s. seen (isState (now (a .0)) (a .1 .0)) (now (s .0)) r)
 next-one κs a r r′ s s′ n n′ = one-call _ _ _ n n′
