@@ -7,9 +7,12 @@ use mathlib.Core.List.{List}
 use Prim.Native.Nat.{ℕ}
 use denote.Ref.{now}
 use lib.IntN.{ℤ}
-use Rattle.base.proofs.Unique.{OneAnswer, same}
+use Rattle.base.proofs.Unique.{OneAnswer, OneAnswerOver, same}
 use Rattle.host_answer.specs.Seen.{SeenCall, seenCall}
 use Rattle.host_answer.proofs.Calls.{one-call}
+use Rattle.host_log.specs.State.{isState}
+use Rattle.host_log.specs.Seen as log-seen
+use Rattle.host_log.proofs.Calls.{one-log-call, one-log-end}
 use Rattle.host.proofs.state.crsf_next_raw_packet.Reads as next-raw-packet
 use Rattle.host.proofs.state.crsf_reset.Reads as reset
 use Rattle.host.proofs.state.crsf_save.Reads as save
@@ -41,6 +44,11 @@ use Rattle.host.proofs.query.crsf_baro_decimetres.Reads as baro-decimet
 use Rattle.host.proofs.query.crsf_gps_metres.Reads as gps-metres
 use Rattle.host.proofs.views.crsf_channel_microseconds.Reads as channel-microseconds
 use Rattle.host.proofs.views.crsf_raw_view.Reads as raw-view
+use Rattle.host.proofs.logs.crsf_log_next.Reads as log-next
+use Rattle.host.proofs.logs.crsf_log_end.Reads as log-end
+use Rattle.host.proofs.logs.crsf_log_reset.Reads as log-reset
+use Rattle.host.proofs.logs.crsf_log_start.Reads as log-start
+use Rattle.host.proofs.logs.crsf_log_entry.Reads as log-entry
 use Rattle.host.proofs.Shown.{by-answer}
 
 -- ---- The state
@@ -145,3 +153,21 @@ channel-microseconds-one κs a r r′ s s′ p q = by-answer p (q .exact) ∙ sy
 
 pub raw-view-one : OneAnswer {Seen = ℕ} raw-view.Post (λ κs r s. r)
 raw-view-one κs a r r′ s s′ = same
+
+-- ---- The kit log
+
+pub log-next-one : OneAnswerOver {Seen = log-seen.SeenCall} log-next.Post
+    (λ κs a r s. log-seen.seenCall (isState (now (a .0))) (now (s .0)) (now (s .1 .1 .0)) r)
+log-next-one κs a r r′ s s′ = one-log-call (now (a .0)) (now (a .1 .0)) (now (a .1 .1 .0))
+
+pub log-end-one : OneAnswer {Seen = ℕ × List ℕ} log-end.Post (λ κs r s. (r, now (s .0)))
+log-end-one κs a r r′ s s′ = one-log-end (now (a .0))
+
+pub log-reset-one : OneAnswer {Seen = ℕ × List ℕ} log-reset.Post (λ κs r s. (r, now (s .0)))
+log-reset-one κs a r r′ s s′ = same
+
+pub log-start-one : OneAnswer {Seen = ℕ × List ℕ} log-start.Post (λ κs r s. (r, now (s .0)))
+log-start-one κs a r r′ s s′ = same
+
+pub log-entry-one : OneAnswer {Seen = ℕ × List ℕ} log-entry.Post (λ κs r s. (r, now (s .1 .1 .0)))
+log-entry-one κs a r r′ s s′ = same

@@ -5,6 +5,8 @@ use Rattle.base.proofs.Unique.{OneAnswer, same}
 use Rattle.host_answer.specs.declared.answer.HostAnswer.{HostAnswer}
 use Rattle.host_answer.proofs.answer.pack.Reads as pack
 use Rattle.host_answer.proofs.answer.placed.Reads as placed
+use Rattle.host_answer.proofs.answer.said.Reads as said
+use Rattle.host_answer.proofs.answer.carried.Reads as carried
 use Rattle.host_answer.proofs.answer.count.Reads as count
 use Rattle.host_answer.proofs.answer.refuse.Reads as refuse
 use Rattle.host_answer.proofs.reply.answer_call.Reads as answer-call
@@ -16,6 +18,12 @@ pack-one κs a r r′ s s′ = same
 
 pub placed-one : OneAnswer {Seen = HostAnswer} placed.Post (λ κs r s. r)
 placed-one κs a r r′ s s′ = same
+
+pub said-one : OneAnswer {Seen = HostAnswer} said.Post (λ κs r s. r)
+said-one κs a r r′ s s′ = same
+
+pub carried-one : OneAnswer {Seen = HostAnswer} carried.Post (λ κs r s. r)
+carried-one κs a r r′ s s′ = same
 
 pub count-one : OneAnswer {Seen = ℕ} count.Post (λ κs r s. r)
 count-one κs a r r′ s s′ = same

@@ -5,3 +5,4 @@ pub mod Fits
 pub mod Again
 pub mod Sessions
 pub mod Unique
+pub mod Calls
