@@ -401,8 +401,8 @@ static text t;
 
 static void add(const uint8_t *bytes, size_t n)
 {
-    memcpy(t.bytes + t.n, bytes, n);
-    t.n += n;
+    for (size_t i = 0; i < n; i++)
+        t.bytes[t.n++] = bytes[i];
 }
 
 /* A valid frame of so many bytes. */
@@ -428,7 +428,11 @@ enum { SECONDS = sizeof all_seconds / sizeof *all_seconds };
 
 static uint32_t some_seconds(void)
 {
-    return noise() % 3 ? all_seconds[noise() % SECONDS] : (noise() << 8 ^ noise()) >> noise() % 32;
+    if (noise() % 3)
+        return all_seconds[noise() % SECONDS];
+    uint32_t number = noise() << 8;
+    number ^= noise();
+    return number >> noise() % 32;
 }
 
 static uint8_t some_address(void)
@@ -438,6 +442,15 @@ static uint8_t some_address(void)
         byte = (uint8_t)noise();
     while (!listed(byte));
     return byte;
+}
+
+static entry add_some_entry(void)
+{
+    const uint32_t seconds = some_seconds();
+    const uint8_t address = some_address();
+    const size_t size = 4 + noise() % 61;
+    add_entry(seconds, address, size);
+    return (entry){seconds, t.n - size, size};
 }
 
 /* Three entries, with seconds of one, two and five bytes and frames of 4, 17 and 64. */
@@ -494,23 +507,28 @@ static void changes(void)
     CHECK(accepted > 3 * 23 + 127);
 }
 
+/* What each of two bytes is changed to: any byte, or the one that it is with a bit changed. */
+static void change(void)
+{
+    const size_t at = noise() % t.n;
+    if (noise() % 3)
+        t.bytes[at] = (uint8_t)noise();
+    else
+        t.bytes[at] ^= (uint8_t)(1u << noise() % 8);
+}
+
 static void two_changes(void)
 {
     for (unsigned turn = 0; turn < 20000; turn++) {
-        if (turn % 100 == 0)
-            three_entries();
-        const size_t i = noise() % t.n, j = noise() % t.n;
-        const uint8_t at_i = t.bytes[i], at_j = t.bytes[j];
-        t.bytes[i] = (uint8_t)(noise() % 3 ? noise() : at_i ^ 1u << noise() % 8);
-        t.bytes[j] = (uint8_t)(noise() % 3 ? noise() : at_j ^ 1u << noise() % 8);
+        three_entries();
+        change();
+        change();
         understand(&t, 0);
         in_pieces(&t, t.n, LONGEST, false);
         in_pieces(&t, t.n, 1 + noise() % 20, true);
         in_two(&t, t.n, noise() % (t.n + 1), false);
         in_any(&t);
         written_again(&t);
-        t.bytes[i] = at_i;
-        t.bytes[j] = at_j;
     }
 }
 
@@ -529,7 +547,7 @@ static void at_random(void)
         } else {
             add((const uint8_t[]){1}, 1);
             for (size_t left = noise() % 9; left; left--)
-                add_entry(some_seconds(), some_address(), 4 + noise() % 61);
+                add_some_entry();
             const size_t at = noise() % t.n;
             if (turn % 4 == 1)
                 t.bytes[at] = (uint8_t)noise();
@@ -714,6 +732,9 @@ static void leads_to(const uint8_t *state)
             add((const uint8_t[]){(uint8_t)(0x80 | (number_at(state + 3) >> (7 * i) & 0x7F))}, 1);
 }
 
+/* How many states were lent that are refused, that read on, and that have ended or refused: so that none of the three is left out unseen. */
+static unsigned bad_states, reading_states, closed_states;
+
 /* These 75 bytes, lent to each call with some bytes: refused with 8 and unchanged, or read on as behind a string that leads there. */
 static void lent(const uint8_t *state, const uint8_t *input, size_t n)
 {
@@ -721,6 +742,7 @@ static void lent(const uint8_t *state, const uint8_t *input, size_t n)
     uint32_t seconds = 0x5EC04D5;
     memcpy(bytes, state, sizeof bytes);
     if (!is_state(state)) {
+        bad_states++;
         CHECK(refusal(crsf_log_next(bytes, sizeof bytes, input, n, &seconds), CRSF_BAD_STATE));
         CHECK(refusal(crsf_log_next(bytes, sizeof bytes, NULL, 0, &seconds), CRSF_BAD_STATE));
         CHECK(refusal(crsf_log_end(bytes, sizeof bytes), CRSF_BAD_STATE));
@@ -732,6 +754,7 @@ static void lent(const uint8_t *state, const uint8_t *input, size_t n)
     }
     const uint8_t stage = state[0];
     if (stage >= 4) {
+        closed_states++;
         const uint8_t next = stage >= 5 ? stage + 4 : n ? CRSF_INVALID_LOG : CRSF_MORE;
         const stand after = standing(stage == 4 && n ? 5 : stage, 0, 0, 0, 0), ended = standing(stage, 0, 0, 0, 0);
         CHECK(refusal(crsf_log_next(bytes, sizeof bytes, input, n, &seconds), next) && seconds == 0x5EC04D5);
@@ -741,6 +764,7 @@ static void lent(const uint8_t *state, const uint8_t *input, size_t n)
         CHECK(memcmp(bytes, ended.fields, FIELDS) == 0);
         return;
     }
+    reading_states++;
     leads_to(state);
     const size_t from = t.n;
     add(input, n);
@@ -763,7 +787,6 @@ static void about(const uint8_t *state)
 {
     uint8_t changed[CRSF_LOG_STATE_SIZE], input[3][80];
     static const uint8_t first[3] = {0x01, 0x80, 0xC8};
-    memcpy(changed, state, sizeof changed);
     for (size_t i = 0; i < 3; i++) {
         for (size_t k = 0; k < sizeof input[i]; k++)
             input[i][k] = (uint8_t)noise();
@@ -771,11 +794,10 @@ static void about(const uint8_t *state)
     }
     for (size_t i = 0; i < FIELDS + 4; i++)
         for (unsigned byte = 0; byte < 256; byte++) {
+            memcpy(changed, state, sizeof changed);
             changed[i] = (uint8_t)byte;
             lent(changed, NULL, 0);
-            for (size_t k = 0; k < 3; k++)
-                lent(changed, input[k], 1 + noise() % sizeof input[k]);
-            changed[i] = state[i];
+            lent(changed, input[byte % 3], 1 + noise() % sizeof input[0]);
         }
 }
 
@@ -815,6 +837,7 @@ static void states(void)
                 lent(state, NULL, 0);
                 lent(state, (const uint8_t[]){1, 0, 4, SMALLEST}, 1 + noise() % 7);
             }
+    CHECK(bad_states > 200000 && reading_states > 200000 && closed_states > 10000);
     /* other lengths */
     static uint8_t many[400], before[400];
     for (size_t n = 0; n <= 332; n++)
@@ -898,7 +921,8 @@ static void writer(void)
             for (unsigned byte = 0; byte < 256; byte++) {
                 one[i] = (uint8_t)byte;
                 writes(some_seconds(), one, sizes[s], 80);
-                writes(some_seconds(), one, sizes[s], noise() % 8);
+                const uint32_t seconds = some_seconds();
+                writes(seconds, one, sizes[s], noise() % 8);
             }
             one[i] = was;
         }
@@ -928,10 +952,9 @@ static void there_and_back(void)
         t.n = 0;
         add((const uint8_t[]){1}, 1);
         for (size_t left = noise() % 12; left; left--) {
-            const uint32_t seconds = some_seconds();
-            const size_t first = t.n, size = 4 + noise() % 61;
-            add_entry(seconds, some_address(), size);
-            const crsf_answer a = crsf_log_entry(seconds, t.bytes + t.n - size, size, out + at, sizeof out - at);
+            const size_t first = t.n;
+            const entry e = add_some_entry();
+            const crsf_answer a = crsf_log_entry(e.seconds, t.bytes + e.at, e.len, out + at, sizeof out - at);
             CHECK(count(a, (uint8_t)(t.n - first)));
             at += a.len;
         }
