@@ -794,6 +794,7 @@ static void about(const uint8_t *state)
     }
     for (size_t i = 0; i < FIELDS + 4; i++)
         for (unsigned byte = 0; byte < 256; byte++) {
+            /* anew each time: gcc 12 drops a store at the loop's end that puts the byte back */
             memcpy(changed, state, sizeof changed);
             changed[i] = (uint8_t)byte;
             lent(changed, NULL, 0);

@@ -557,10 +557,11 @@ fn leads_to(state: &[u8; 75]) -> Option<Vec<u8>> {
     }
 }
 
-/// These bytes as a state: refused, or read on as behind a string that leads there.
-fn lent(state: [u8; 75], input: &[u8]) {
+/// These bytes as a state: refused, or read on as behind a string that leads there. Whether they are a state.
+fn lent(state: [u8; 75], input: &[u8]) -> bool {
     let Some(mut bytes) = leads_to(&state) else {
-        return assert_eq!(LogReader::from_state(state), Err(BadState), "{state:02X?}");
+        assert_eq!(LogReader::from_state(state), Err(BadState), "{state:02X?}");
+        return false;
     };
     let mut reader = LogReader::from_state(state).unwrap();
     assert_eq!(reader.state(), &state);
@@ -568,13 +569,14 @@ fn lent(state: [u8; 75], input: &[u8]) {
     if state[0] == 4 {
         assert_eq!(reader.clone().end(), Ok(()));
         assert_eq!(reader.next_entry(&mut &input[..]), if input.is_empty() { Ok(None) } else { Err(InvalidLog) });
-        return;
+        return true;
     }
     bytes.extend(input);
     let text = Text::new(bytes);
     let mut both = Both { text: &text, reader, from, given: 0, spoils: None };
     both.piece(text.bytes.len());
     both.end();
+    true
 }
 
 #[test]
@@ -591,16 +593,18 @@ fn states_that_no_log_leads_to_are_refused() {
     for stage in [4, 5, 6] {
         states.push(std::array::from_fn(|i| if i == 0 { stage } else { noise.byte() }));
     }
+    let mut count = [0; 2];
     for state in states {
         for at in 0..14 {
             for byte in 0..=255 {
                 let mut changed = state;
                 changed[at] = byte;
                 lent(changed, &[]);
-                lent(changed, &[[1, 0x80, 0xC8][noise.below(3)], 0, 4, 0xC8, 2, 0, 0]);
+                count[usize::from(lent(changed, &[[1, 0x80, 0xC8][noise.below(3)], 0, 4, 0xC8, 2, 0, 0]))] += 1;
             }
         }
     }
+    assert!(count.iter().all(|n| *n > 100_000), "{count:?}");
     // Each stage with each count and size, and values about the greatest that a count has.
     for stage in 0..9 {
         for count in 0..67 {
