@@ -28,7 +28,7 @@
  * Stack: bytes that a call needs at most, with its return address and its arguments counted in. Measured on x86-64 by painting the stack:
  * `hosts/test --stack` measures again, and fails where a call needs more than this.
  *     crsf_next_raw_packet              104        crsf_reset                         24
- *     crsf_save                          24        crsf_restore                       24
+ *     crsf_save                          88        crsf_restore                       24
  *     crsf_held                          24        crsf_is_address                    24
  *     crsf_header_of                     24        crsf_checksum                      56
  *     crsf_pack_altitude                 24        crsf_baro_decimetres               24
@@ -42,7 +42,9 @@
  *     crsf_read_gps                      24        crsf_read_gps_extended             24
  *     crsf_read_battery                  24        crsf_read_baro_altitude            24
  *     crsf_read_rpm                      24        crsf_read_temp                     64
- *     crsf_read_voltages                 88
+ *     crsf_read_voltages                 88        crsf_log_next                     280
+ *     crsf_log_end                      184        crsf_log_reset                     24
+ *     crsf_log_start                     24        crsf_log_entry                    232
  */
 #ifndef CRSF_H
 #define CRSF_H
