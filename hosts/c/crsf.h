@@ -1,5 +1,5 @@
 /*
- * CRSF frames for a host in C: cut a byte stream into frames, save and restore midway, write and read records.
+ * CRSF frames for a host in C: cut a byte stream into frames, save and restore midway, write and read records, write and read kit logs.
  *
  * Link the archive: libcrsf.a where `./install PREFIX` put it (`pkg-config --cflags --libs crsf` has the flags), or target/staticlib/libhost.a
  * where `rt staticlib host` wrote it. It is for x86-64 Linux, allocates nothing, keeps nothing between calls, and needs nothing from outside, not
@@ -28,7 +28,7 @@
  * Stack: bytes that a call needs at most, with its return address and its arguments counted in. Measured on x86-64 by painting the stack:
  * `hosts/test --stack` measures again, and fails where a call needs more than this.
  *     crsf_next_raw_packet              104        crsf_reset                         24
- *     crsf_save                          24        crsf_restore                       24
+ *     crsf_save                          88        crsf_restore                       24
  *     crsf_held                          24        crsf_is_address                    24
  *     crsf_header_of                     24        crsf_checksum                      56
  *     crsf_pack_altitude                 24        crsf_baro_decimetres               24
@@ -42,7 +42,9 @@
  *     crsf_read_gps                      24        crsf_read_gps_extended             24
  *     crsf_read_battery                  24        crsf_read_baro_altitude            24
  *     crsf_read_rpm                      24        crsf_read_temp                     64
- *     crsf_read_voltages                 88
+ *     crsf_read_voltages                 88        crsf_log_next                     280
+ *     crsf_log_end                      184        crsf_log_reset                     24
+ *     crsf_log_start                     24        crsf_log_entry                    232
  */
 #ifndef CRSF_H
 #define CRSF_H
@@ -54,9 +56,9 @@
 
 /* The version of this header and of the archive, and nowhere else decided: CHANGELOG.md says what changed. */
 #define CRSF_VERSION_MAJOR 0
-#define CRSF_VERSION_MINOR 3
+#define CRSF_VERSION_MINOR 4
 #define CRSF_VERSION_PATCH 0
-#define CRSF_VERSION "0.3.0"
+#define CRSF_VERSION "0.4.0"
 
 #ifdef __cplusplus
 extern "C" {
@@ -66,10 +68,10 @@ extern "C" {
 
 /* A field that an answer does not speak of is 0: after CRSF_MORE and after a refusal, len is 0. The struct comes back by value, in one register. */
 typedef struct crsf_answer {
-    uint8_t number;   /* CRSF_OK or CRSF_FRAME, 0; CRSF_MORE; or a refusal, 1 to 8 */
-    uint8_t taken;    /* crsf_next_raw_packet: how many bytes of the input it took, at most 64 */
+    uint8_t number;   /* CRSF_OK or CRSF_FRAME, 0; CRSF_MORE; or a refusal, 1 to 10 */
+    uint8_t taken;    /* how many bytes of the input were taken: by crsf_next_raw_packet at most 64, by crsf_log_next at most 71 */
     uint8_t in_state; /* of a frame: 1 where its bytes stand in the state, 0 where they stand in the input */
-    uint8_t at;       /* of a frame: where it begins, in the 66 bytes of the state or in the input */
+    uint8_t at;       /* of a frame: where it begins, in the bytes of the state or in the input */
     uint8_t len;      /* the bytes of a frame; or how many bytes were written or are held; or how many numbers were given */
     uint8_t first;    /* what a refusal carries, see below; the source id of RPM, temperatures or voltages that were read */
     uint8_t second;   /* CRSF_INVALID_CRC: the carried check byte */
@@ -88,6 +90,9 @@ enum {
     CRSF_CHANNEL_RANGE = 6,          /* first: the index of the first channel above 2047, 0 of a single one. Nothing was written */
     CRSF_BAD_ADDRESS = 7,            /* a destination that is not an address. Nothing was written */
     CRSF_BAD_STATE = 8,              /* not a valid state, or a malformed saved form; 64 held bytes at a save. Nothing was taken or changed */
+    CRSF_INVALID_LOG = 9,            /* of a log: a malformed number, a first number other than 1, an end inside an entry or before the 1, a byte
+                                      * behind the end */
+    CRSF_INVALID_FRAME = 10,         /* of a log: a length that is not 4 to 64, or bytes that are not one whole valid frame */
     CRSF_MORE = 255                  /* no answer yet: all of the input is taken, and more is asked for */
 };
 
@@ -279,6 +284,56 @@ crsf_answer crsf_read_rpm(const uint8_t *payload, size_t payload_len, int32_t *o
 crsf_answer crsf_read_temp(const uint8_t *payload, size_t payload_len, int16_t *out, size_t out_len);
 crsf_answer crsf_read_voltages(const uint8_t *payload, size_t payload_len, uint16_t *out, size_t out_len);
 
+/* ---- Kit logs ------------------------------------------------------------------------------------------------------------------------------ */
+
+/* A log is the number 1 and then entries: the seconds since the entry before, the length of a frame, and the frame. The number 1 alone is a log. A
+ * number has seven bits in each byte, the lowest first, with the top bit set in all but the last; it is in its shortest form and at most
+ * 2^32 - 1. */
+
+/* Where a reader is, between calls. All zero is before the first byte. What a stage does not use is not looked at, and 0 after a call. It is valid
+ * where the stage is at most 6, a number's count at most 4 and its value below 128^count, a frame's size 4 to 64 and its count below that, a first
+ * held byte an address, and a second one size - 2. */
+typedef struct crsf_log_state {
+    uint8_t stage;       /* 0 in the first number, 1 in an entry's seconds, 2 in its length, 3 in its frame, 4 ended, 5 refused with 9, 6 with 10 */
+    uint8_t count;       /* of a number: how many of its bytes have come, 0 to 4; of a frame: how many are held */
+    uint8_t size;        /* of a frame: its length, 4 to 64 */
+    uint8_t value[4];    /* of a number: its value so far, highest byte first */
+    uint8_t seconds[4];  /* of an entry, in stages 2 and 3: its seconds, highest byte first */
+    uint8_t places[64];  /* the held bytes of a frame: places[0] up to places[count - 1] */
+} crsf_log_state;
+
+enum {
+    CRSF_LOG_STATE_SIZE = 75, /* sizeof(crsf_log_state) */
+    CRSF_LOG_START_SIZE = 1,  /* what a log begins with */
+    CRSF_LOG_ENTRY_MAX = 70,  /* the longest entry: five bytes of seconds, one of length, 64 of frame */
+    CRSF_LOG_TAKEN_MAX = 71   /* the most that one call takes: the 1 and the longest entry */
+};
+
+/* The next entry of the log, whatever pieces it comes in. Refusal 8, tested first and with nothing taken or changed, for a state of another length
+ * than 75 and for one that no log leads to.
+ *   CRSF_FRAME       an entry: its seconds are in *seconds, and its frame has len bytes, in the input where it stands whole there, else in the
+ *                    state. The bytes from input + taken on are unread, and the next call goes on there
+ *   CRSF_MORE        all of the input is taken
+ *   refusals 9, 10   the bytes up to and with the one that is refused are taken. From then on every call gives this refusal and takes nothing, until
+ *                    a reset
+ * A number is judged at its last byte or its fifth, a frame at the first byte that no valid frame of its length has there. seconds is not NULL, and
+ * with any other answer than an entry *seconds stays as it is. */
+crsf_answer crsf_log_next(uint8_t *state, size_t state_len, const uint8_t *input, size_t input_len, uint32_t *seconds);
+
+/* Says that the log ends here: CRSF_OK, or refusal 9 inside an entry or before the 1, or the refusal that was given before, or 8. After CRSF_OK
+ * another end says so again, an empty input asks for more, and a byte is refused with 9, and not taken, until a reset. */
+crsf_answer crsf_log_end(uint8_t *state, size_t state_len);
+
+/* Before the first byte again. Refusal 8 for a state of another length than 75, and for no other. */
+crsf_answer crsf_log_reset(uint8_t *state, size_t state_len);
+
+/* Writes what a log begins with, the number 1, to the front of out; len is 1. Refusal 5 where out_len is 0. */
+crsf_answer crsf_log_start(uint8_t *out, size_t out_len);
+
+/* Writes an entry to the front of out; len is its length, 6 to 70. Refusal 10 for bytes that are not one whole valid frame, then 5, with out
+ * unchanged. */
+crsf_answer crsf_log_entry(uint32_t seconds, const uint8_t *frame, size_t frame_len, uint8_t *out, size_t out_len);
+
 /* ---- Conveniences -------------------------------------------------------------------------------------------------------------------------- */
 
 static inline crsf_answer crsf_next(crsf_state *state, const uint8_t *input, size_t input_len)
@@ -308,6 +363,27 @@ static inline crsf_answer crsf_held_count(const crsf_state *state)
 
 /* The bytes of a frame, of which there are answer.len: valid until the state or the input changes. Only where answer.number is CRSF_FRAME. */
 static inline const uint8_t *crsf_frame_bytes(const crsf_state *state, const uint8_t *input, crsf_answer answer)
+{
+    return answer.in_state ? (const uint8_t *)state + answer.at : input + answer.at;
+}
+
+static inline crsf_answer crsf_log_read(crsf_log_state *state, const uint8_t *input, size_t input_len, uint32_t *seconds)
+{
+    return crsf_log_next((uint8_t *)state, sizeof *state, input, input_len, seconds);
+}
+
+static inline crsf_answer crsf_log_finish(crsf_log_state *state)
+{
+    return crsf_log_end((uint8_t *)state, sizeof *state);
+}
+
+static inline crsf_answer crsf_log_forget(crsf_log_state *state)
+{
+    return crsf_log_reset((uint8_t *)state, sizeof *state);
+}
+
+/* The bytes of an entry's frame, as crsf_frame_bytes has them. */
+static inline const uint8_t *crsf_log_frame_bytes(const crsf_log_state *state, const uint8_t *input, crsf_answer answer)
 {
     return answer.in_state ? (const uint8_t *)state + answer.at : input + answer.at;
 }

@@ -49,21 +49,27 @@ static size_t depth(void (*f)(void), void (*before)(void))
 
 /* What the calls are about. */
 static crsf_state state, first_state;
-static uint8_t bytes[256], buffer[80], form[CRSF_SAVED_MAX];
-static size_t count, room;
+static crsf_log_state log_state, first_log_state;
+static uint8_t bytes[256], buffer[80], form[CRSF_SAVED_MAX], frame[CRSF_FRAME_MAX], log_bytes[80];
+static size_t count, room, frame_len, log_len;
 static uint8_t dest;
 static uint16_t channels[16];
 static int32_t numbers[20];
 static int16_t temperatures[CRSF_TEMPERATURES_MAX + 1];
 static uint16_t voltages[CRSF_VOLTAGE_VALUES_MAX + 1];
-static uint32_t bits[1];
+static uint32_t bits[1], seconds;
 static volatile unsigned sink;
 
-static void same(void) { state = first_state; }
+static void same(void)
+{
+    state = first_state;
+    log_state = first_log_state;
+}
 
 #define CALL(name, ...) static void call_##name(void) { sink += crsf_##name(__VA_ARGS__).number; }
 #define ASK(name, ...) static void call_##name(void) { sink += (unsigned)crsf_##name(__VA_ARGS__); }
 #define STATE (uint8_t *)&state, sizeof state
+#define LOG_STATE (uint8_t *)&log_state, sizeof log_state
 
 CALL(next_raw_packet, STATE, bytes, count)
 CALL(reset, STATE)
@@ -96,6 +102,11 @@ CALL(read_baro_altitude, bytes, count, numbers, room % 21)
 CALL(read_rpm, bytes, count, numbers, room % 21)
 CALL(read_temp, bytes, count, temperatures, room % (CRSF_TEMPERATURES_MAX + 2))
 CALL(read_voltages, bytes, count, voltages, room % (CRSF_VOLTAGE_VALUES_MAX + 2))
+CALL(log_next, LOG_STATE, log_bytes, log_len, &seconds)
+CALL(log_end, LOG_STATE)
+CALL(log_reset, LOG_STATE)
+CALL(log_start, buffer, room)
+CALL(log_entry, (uint32_t)numbers[0], frame, frame_len, buffer, room)
 
 #define ENTRY(name) {"crsf_" #name, call_##name, 0}
 static struct {
@@ -110,6 +121,7 @@ static struct {
     ENTRY(write_baro_altitude), ENTRY(write_rpm), ENTRY(write_temp), ENTRY(write_voltages),
     ENTRY(read_link_statistics), ENTRY(read_rc_channels_packed), ENTRY(read_gps), ENTRY(read_gps_extended), ENTRY(read_battery),
     ENTRY(read_baro_altitude), ENTRY(read_rpm), ENTRY(read_temp), ENTRY(read_voltages),
+    ENTRY(log_next), ENTRY(log_end), ENTRY(log_reset), ENTRY(log_start), ENTRY(log_entry),
 };
 enum { ENTRIES = sizeof entries / sizeof *entries };
 
@@ -127,6 +139,26 @@ static unsigned noise(void)
     static uint64_t seed = 1;
     seed = seed * 6364136223846793005u + 1442695040888963407u;
     return (unsigned)(seed >> 40);
+}
+
+/* A log of one entry, right or with a byte changed, of which some bytes are read already; at times any bytes for a state. */
+static void make_log(unsigned turn)
+{
+    uint8_t whole[1 + CRSF_LOG_ENTRY_MAX];
+    frame_len = crsf_write_rpm(frame, sizeof frame, 0xC8, 1, numbers, 1 + turn % 19).len;
+    const size_t n = 1 + crsf_log_entry((uint32_t)numbers[turn % 20] >> noise() % 32, frame, frame_len, whole + 1, sizeof whole - 1).len;
+    whole[0] = 1;
+    if (turn % 4 == 3)
+        whole[noise() % n] = (uint8_t)noise();
+    const size_t cut = turn % 3 ? noise() % n : 0;
+    memset(&first_log_state, 0, sizeof first_log_state);
+    crsf_log_read(&first_log_state, whole, cut, &seconds);
+    log_len = n - cut;
+    memcpy(log_bytes, whole + cut, log_len);
+    if (turn % 13 == 0)
+        memcpy(&first_log_state, bytes, sizeof first_log_state);
+    if (turn % 7 == 0)
+        frame[noise() % frame_len] ^= 1;
 }
 
 int main(void)
@@ -160,6 +192,7 @@ int main(void)
             memmove(bytes, bytes + cut, sizeof bytes - cut);
             count = turn % 11 ? w.len - cut : count;
         }
+        make_log(turn);
         measure();
     }
     for (size_t i = 0; i < ENTRIES; i++) {

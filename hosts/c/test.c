@@ -1,37 +1,5 @@
 /* Every entry of the archive, called from C on known bytes. Prints what it ran, and stops at the first difference. */
-#include "crsf.h"
-
-#include <stdio.h>
-#include <stdlib.h>
-#include <string.h>
-
-static unsigned checks;
-
-#define CHECK(what)                                                                  \
-    do {                                                                             \
-        checks++;                                                                    \
-        if (!(what)) {                                                               \
-            printf("%s:%d: not so: %s\n", __FILE__, __LINE__, #what);                \
-            exit(1);                                                                 \
-        }                                                                            \
-    } while (0)
-
-/* An answer by its eight bytes. */
-static int is(crsf_answer a, uint8_t number, uint8_t taken, uint8_t in_state, uint8_t at, uint8_t len, uint8_t first, uint8_t second)
-{
-    return a.number == number && a.taken == taken && a.in_state == in_state && a.at == at && a.len == len && a.first == first
-        && a.second == second && a.zero == 0;
-}
-
-static int refusal(crsf_answer a, uint8_t number)
-{
-    return is(a, number, 0, 0, 0, 0, 0, 0);
-}
-
-static int count(crsf_answer a, uint8_t len)
-{
-    return is(a, CRSF_OK, 0, 0, 0, len, 0, 0);
-}
+#include "check.h"
 
 /* What a stream says, in the lines of the listing, whatever the pieces. The state is saved after save_at calls, spoilt and restored. */
 static void list(const uint8_t *bytes, size_t n, size_t piece, unsigned save_at, char *out)
@@ -344,18 +312,6 @@ static void series_reads(const series *r, const uint8_t *payload, size_t n, size
             want[i] = (uint16_t)(payload[1 + 2 * i] * 256 + payload[2 + 2 * i]);
     }
     CHECK(memcmp(got, want, sizeof want) == 0);
-}
-
-/* The check byte, bit by bit (RULES 4.5): nothing of the archive is asked. */
-static uint8_t check_byte(const uint8_t *bytes, size_t n)
-{
-    unsigned rest = 0;
-    for (size_t i = 0; i < n; i++) {
-        rest ^= bytes[i];
-        for (int bit = 0; bit < 8; bit++)
-            rest = rest & 0x80 ? (rest << 1 ^ 0xD5) & 0xFF : rest << 1;
-    }
-    return (uint8_t)rest;
 }
 
 /* What a writer is to answer and to leave in its buffer, from the layout alone. The payload that it wrote is read as the values. */

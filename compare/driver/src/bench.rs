@@ -4,7 +4,8 @@
 //! into the loop that times it, and each call is a call through a register.
 use crate::gen::{self, Rng};
 use crate::listing::Listing;
-use crate::ours::{self, kept, Answer, Entries, State};
+use crate::logs;
+use crate::ours::{self, kept, Answer, Entries, LogState, State};
 use crate::queries::CHECK;
 use crate::records::{self, Record, RECORDS};
 use crc::Crc;
@@ -27,7 +28,11 @@ const STREAM: usize = 60_000;
 const WHOLE: usize = STREAM * 2;
 
 pub const CONTIGUOUS: &str = "typical frames, contiguous";
+pub const SIXTEEN: &str = "typical frames in 16-byte pieces";
 pub const BYTES: &str = "typical frames in 1-byte pieces";
+/// A log of the same frames. The Rust has none: its side is its stream, over the frames alone.
+pub const LOG: &str = "log of typical frames, contiguous; the Rust, its frames alone";
+pub const LOG_SIXTEEN: &str = "log of typical frames in 16-byte pieces; the Rust, its frames alone";
 /// Both again with a call that reads the length byte and nothing else, so that what is left is the driver's own loop and the call.
 const LOOP: &str = "the driver's own loop, contiguous";
 pub const LOOP_BYTES: &str = "the driver's own loop in 1-byte pieces";
@@ -141,6 +146,32 @@ fn stream_ours(entries: &Entries, bytes: &[u8], piece: usize) -> u64 {
             sum += if a.number == ours::FRAME {
                 let frame = if a.in_state == 1 { &state[usize::from(a.at)..] } else { left };
                 u64::from(a.len) + (u64::from(frame[2]) << 32)
+            } else {
+                1 << 52
+            };
+            left = &left[usize::from(a.taken)..];
+        }
+    }
+    sum
+}
+
+/// A log through the port's entry. The sum is of the same, and the seconds go to their place.
+#[inline(never)]
+fn log_ours(entries: &Entries, log: &[u8], piece: usize) -> u64 {
+    let entries = entries.kept();
+    let mut state: LogState = [0; 75];
+    let (mut sum, mut seconds) = (0, 0);
+    for piece in log.chunks(piece) {
+        let mut left = piece;
+        loop {
+            let a = entries.log_next(&mut state, left, &mut seconds);
+            if a.number == ours::MORE {
+                break;
+            }
+            sum += if a.number == ours::FRAME {
+                let place = if a.in_state == 1 { &state[..] } else { left };
+                black_box(seconds);
+                u64::from(a.len) + (u64::from(place[usize::from(a.at) + 2]) << 32)
             } else {
                 1 << 52
             };
@@ -496,10 +527,40 @@ fn record_row_of_each_kind(rows: &mut Rows) {
     );
 }
 
+/// The stream of typical frames, and a log of them.
+fn typical_and_log(r: &mut Rng) -> (Vec<u8>, Vec<logs::Entry>) {
+    let typical = gen::typical(r, STREAM);
+    let mut r = Rng::new(43);
+    let entries = bodies(&typical).iter().map(|body| (gen::seconds(&mut r), gen::frame(0xC8, body))).collect();
+    (typical, entries)
+}
+
+/// How many frames the typical stream has, and how many bytes it and its log have.
+pub fn lengths() -> (usize, usize, usize) {
+    let (typical, entries) = typical_and_log(&mut Rng::new(42));
+    (entries.len(), typical.len(), logs::by_rules(&entries).len())
+}
+
+/// Logs of the typical frames. What is read is first held against what was written.
+fn log_rows(rows: &mut Rows, typical: &'static [u8], entries: &[logs::Entry]) {
+    let log: &'static [u8] = logs::by_rules(entries).leak();
+    assert_eq!(logs::written(entries).as_deref(), Ok(log), "the log that was written");
+    let archives = std::mem::replace(&mut rows.archives, vec![&ours::NOW]);
+    for (name, piece) in [(LOG, WHOLE), (LOG_SIXTEEN, 16)] {
+        for archive in &rows.archives {
+            let read = logs::read(archive, log, logs::pieces(log.len(), piece));
+            assert_eq!(read.as_deref(), Ok(entries), "{name}: what was read is not what was written");
+        }
+        rows.add(name, "entry", entries.len(), move || stream_rust(next_rust(), typical, piece), move |e| log_ours(e, log, piece));
+    }
+    rows.archives = archives;
+}
+
 /// One run: a line for each row.
 pub fn once(listing: Option<Listing>) {
     let mut r = Rng::new(42);
-    let typical: &'static [u8] = gen::typical(&mut r, STREAM).leak();
+    let (typical, entries) = typical_and_log(&mut r);
+    let typical: &'static [u8] = typical.leak();
     let frames: &'static [&[u8]] = bodies(typical).leak();
     let mut noise = vec![0; STREAM];
     r.fill(&mut noise);
@@ -516,12 +577,13 @@ pub fn once(listing: Option<Listing>) {
     };
     stream(CONTIGUOUS, "frame", frames.len(), typical, WHOLE);
     stream("typical frames in 64-byte pieces", "byte", typical.len(), typical, 64);
-    stream("typical frames in 16-byte pieces", "byte", typical.len(), typical, 16);
+    stream(SIXTEEN, "byte", typical.len(), typical, 16);
     stream(BYTES, "byte", typical.len(), typical, 1);
     stream("noise, contiguous", "byte", noise.len(), noise, WHOLE);
     stream("noise in 16-byte pieces", "byte", noise.len(), noise, 16);
     stream("runs of C8, contiguous", "byte", STREAM / 2, vec![0xC8; STREAM / 2].leak(), WHOLE);
     stream("each fourth frame damaged, contiguous", "byte", damaged.len(), damaged.leak(), WHOLE);
+    log_rows(&mut rows, typical, &entries);
     rows.add(CHECKS, "frame", frames.len(), || checks_rust(frames), |e| checks_ours(e, frames));
     rows.add("check byte of a long string", "byte", noise.len(), || checks_rust(&[noise]), |e| checks_ours(e, &[noise]));
     record_row_of_each_kind(&mut rows);

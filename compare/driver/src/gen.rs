@@ -163,6 +163,29 @@ pub fn typical(r: &mut Rng, len: usize) -> Vec<u8> {
     s
 }
 
+/// An entry of a kit log (RULES 16), from the rules alone: seconds and length in groups of seven bits, lowest first, and the frame.
+pub fn log_entry(seconds: u32, frame: &[u8]) -> Vec<u8> {
+    let mut entry = vec![];
+    for mut number in [seconds, frame.len() as u32] {
+        while number >= 0x80 {
+            entry.push(number as u8 | 0x80);
+            number >>= 7;
+        }
+        entry.push(number as u8);
+    }
+    entry.extend_from_slice(frame);
+    entry
+}
+
+/// Seconds since the entry before, as in a log that is written while frames come: a few, and now and then up to hours.
+pub fn seconds(r: &mut Rng) -> u32 {
+    if r.below(16) == 0 {
+        r.below(20_000) as u32
+    } else {
+        r.below(4) as u32
+    }
+}
+
 pub fn hex(bytes: &[u8]) -> String {
     bytes.iter().map(|b| format!("{b:02X}")).collect::<Vec<_>>().join(" ")
 }

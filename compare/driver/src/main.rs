@@ -3,6 +3,7 @@ mod bench;
 mod framing;
 mod gen;
 mod listing;
+mod logs;
 mod medians;
 mod ours;
 mod queries;
@@ -110,6 +111,7 @@ fn main() {
     framing::compare(&mut report, o.seed, o.bytes);
     records::compare(&mut report, o.seed, 20_000.max(o.bytes / 100));
     queries::compare(&mut report, o.seed);
+    logs::compare(&mut report, o.seed);
     match listing(&o) {
         Some(listing) => listing.compare(&mut report, o.seed),
         None => report.left_out("listing: whole programs, every line", "there is no program `list` (rt check list)"),

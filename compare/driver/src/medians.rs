@@ -1,5 +1,5 @@
 //! The table of docs/SPEED.md: the timing run seven times, each time in a process of its own, and of each number the median.
-use crate::bench::{self, BYTES, CHECKS, CONTIGUOUS, FLOOR, LOOP_BYTES};
+use crate::bench::{self, BYTES, CHECKS, CONTIGUOUS, FLOOR, LOG, LOG_SIXTEEN, LOOP_BYTES, SIXTEEN};
 use crate::gen::TYPICAL;
 use std::process::{Command, Stdio};
 
@@ -62,6 +62,8 @@ pub fn run(command: &[String], emulated: bool) {
     table(&runs);
     println!();
     floors(&runs);
+    println!();
+    logs(&runs);
 }
 
 fn table(runs: &[Vec<Row>]) {
@@ -108,6 +110,22 @@ fn floors(runs: &[Vec<Row>]) {
     line(BYTES, "byte", &|side| {
         column(runs, LOOP_BYTES).zip(column(runs, CHECKS)).map(|(calls, checks)| calls.ns[side] + checks.ns[side] / frame).collect()
     });
+}
+
+/// A log beside the stream parser over its frames, both ours and both in the same runs: time, and bytes a second.
+fn logs(runs: &[Vec<Row>]) {
+    let (frames, bytes, log_bytes) = bench::lengths();
+    let (frame, entry) = (bytes as f64 / frames as f64, log_bytes as f64 / frames as f64);
+    let columns = ["a log beside the stream", "log, ns an entry", "MB of log a second", "stream, ns a frame", "MB of frames a second"];
+    heading(&[&columns[..], &["log : stream", "in 7 runs"]].concat().iter().map(|text| text.to_string()).collect::<Vec<_>>());
+    let ours = |name, times: f64| column(runs, name).map(move |row| row.ns[row.ns.len() - 1] * times);
+    for (name, log, stream, unit) in [("in one piece", LOG, CONTIGUOUS, 1.0), ("in 16-byte pieces", LOG_SIXTEEN, SIXTEEN, frame)] {
+        let (log_ns, stream_ns) = (median(ours(log, 1.0)), median(ours(stream, unit)));
+        let ratios: Vec<f64> = ours(log, 1.0).zip(ours(stream, unit)).map(|(log, stream)| log / stream).collect();
+        let (log_speed, stream_speed) = (entry / log_ns * 1e3, frame / stream_ns * 1e3);
+        println!("| {name} | {log_ns:.2} | {log_speed:.0} | {stream_ns:.2} | {stream_speed:.0} | {} |", ratio(ratios.into_iter()));
+    }
+    println!("\nthe log has {log_bytes} bytes and {frames} entries, whose frames have {bytes} bytes");
 }
 
 fn load() -> String {

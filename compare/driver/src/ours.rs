@@ -26,10 +26,14 @@ pub const BUFFER_OVERFLOW: u8 = 5;
 pub const CHANNEL_RANGE: u8 = 6;
 pub const BAD_ADDRESS: u8 = 7;
 pub const BAD_STATE: u8 = 8;
+pub const INVALID_FRAME: u8 = 10;
 pub const MORE: u8 = 255;
 
 /// Start, end, and 64 places.
 pub type State = [u8; 66];
+
+/// Of a log's reader: eleven bytes, and 64 places.
+pub type LogState = [u8; 75];
 
 impl fmt::Debug for Answer {
     /// The number, and what is not 0 beside it.
@@ -65,8 +69,8 @@ pub fn kept<T: Copy>(place: &T) -> T {
     *hidden(place)
 }
 
-/// Declares the entries of both archives and a table of pointers to each. An earlier archive may lack those marked `new` (none is now):
-/// libhost.a's stand in its table for them, and whoever marks one times its rows with `Rows::archives` set to libhost.a alone.
+/// Declares the entries of both archives and a table of pointers to each. An earlier archive may lack those marked `new`: libhost.a's stand in its
+/// table for them, and their rows are timed with `Rows::archives` set to libhost.a alone.
 macro_rules! entries {
     (
         $(fn $name:ident($($place:ident: $kind:ty),* $(,)?) -> $answer:ty;)*
@@ -149,9 +153,13 @@ entries! {
     fn crsf_pack_altitude(decimetres: i32) -> u16;
     fn crsf_baro_decimetres(packed: u16) -> i32;
     fn crsf_gps_metres(raw: u16) -> i32;
+    new fn crsf_log_next(state: *mut u8, state_len: usize, input: *const u8, input_len: usize, seconds: *mut u32) -> Answer;
+    new fn crsf_log_end(state: *mut u8, state_len: usize) -> Answer;
+    new fn crsf_log_start(out: *mut u8, out_len: usize) -> Answer;
+    new fn crsf_log_entry(seconds: u32, frame: *const u8, frame_len: usize, out: *mut u8, out_len: usize) -> Answer;
 }
 
-/// A safe function for each entry: a method by the table's pointer, and a function that calls libhost.a's.
+/// A safe function for each entry: a method by the table's pointer, and a function that calls libhost.a's. Not each is called in both ways.
 macro_rules! lent {
     ($($(#[$about:meta])* fn $name:ident($($place:ident: $kind:ty),*) -> $answer:ty = $entry:ident($($value:expr),* $(,)?);)*) => {
         // Each entry reads and writes only the slices that it is lent, which is proved of it (docs/PROMISES.md).
@@ -167,6 +175,7 @@ macro_rules! lent {
         $(
             $(#[$about])*
             #[inline]
+            #[allow(dead_code)]
             pub fn $name($($place: $kind),*) -> $answer {
                 NOW.$name($($place),*)
             }
@@ -220,6 +229,13 @@ lent! {
     fn pack_altitude(decimetres: i32) -> u16 = crsf_pack_altitude(decimetres);
     fn baro_decimetres(packed: u16) -> i32 = crsf_baro_decimetres(packed);
     fn gps_metres(raw: u16) -> i32 = crsf_gps_metres(raw);
+    /// The seconds of an entry go to `seconds`.
+    fn log_next(state: &mut [u8], input: &[u8], seconds: &mut u32) -> Answer =
+        crsf_log_next(state.as_mut_ptr(), state.len(), input.as_ptr(), input.len(), seconds);
+    fn log_end(state: &mut [u8]) -> Answer = crsf_log_end(state.as_mut_ptr(), state.len());
+    fn log_start(out: &mut [u8]) -> Answer = crsf_log_start(out.as_mut_ptr(), out.len());
+    fn log_entry(seconds: u32, frame: &[u8], out: &mut [u8]) -> Answer =
+        crsf_log_entry(seconds, frame.as_ptr(), frame.len(), out.as_mut_ptr(), out.len());
 }
 
 // Entries that an archive of `compare/run --before` may lack: these stand in no table.

@@ -132,10 +132,16 @@ mod archive {
         pub fn crsf_read_rpm(payload: *const u8, payload_len: usize, out: *mut i32, out_len: usize) -> u64;
         pub fn crsf_read_temp(payload: *const u8, payload_len: usize, out: *mut i16, out_len: usize) -> u64;
         pub fn crsf_read_voltages(payload: *const u8, payload_len: usize, out: *mut u16, out_len: usize) -> u64;
+        pub fn crsf_log_next(state: *mut u8, state_len: usize, input: *const u8, input_len: usize, seconds: *mut u32) -> u64;
+        pub fn crsf_log_end(state: *mut u8, state_len: usize) -> u64;
+        pub fn crsf_log_reset(state: *mut u8, state_len: usize) -> u64;
+        pub fn crsf_log_start(out: *mut u8, out_len: usize) -> u64;
+        pub fn crsf_log_entry(seconds: u32, frame: *const u8, frame_len: usize, out: *mut u8, out_len: usize) -> u64;
     }
 }
 
 // SAFETY, of every call below: a slice is passed as its own pointer and length, a `&mut` one overlaps no other argument, and the entries keep nothing.
+// A number that is lent is a `&mut` of its own.
 
 pub fn next_raw_packet(state: &mut [u8], input: &[u8]) -> Answer {
     unsafe { archive::crsf_next_raw_packet(state.as_mut_ptr(), state.len(), input.as_ptr(), input.len()) }.into()
@@ -232,3 +238,24 @@ reader!(read_baro_altitude = crsf_read_baro_altitude(i32));
 reader!(read_rpm = crsf_read_rpm(i32));
 reader!(read_temp = crsf_read_temp(i16));
 reader!(read_voltages = crsf_read_voltages(u16));
+
+/// The seconds of an entry go to `seconds`, which stays as it is with any other answer.
+pub fn log_next(state: &mut [u8], input: &[u8], seconds: &mut u32) -> Answer {
+    unsafe { archive::crsf_log_next(state.as_mut_ptr(), state.len(), input.as_ptr(), input.len(), seconds) }.into()
+}
+
+pub fn log_end(state: &mut [u8]) -> Answer {
+    unsafe { archive::crsf_log_end(state.as_mut_ptr(), state.len()) }.into()
+}
+
+pub fn log_reset(state: &mut [u8]) -> Answer {
+    unsafe { archive::crsf_log_reset(state.as_mut_ptr(), state.len()) }.into()
+}
+
+pub fn log_start(out: &mut [u8]) -> Answer {
+    unsafe { archive::crsf_log_start(out.as_mut_ptr(), out.len()) }.into()
+}
+
+pub fn log_entry(seconds: u32, frame: &[u8], out: &mut [u8]) -> Answer {
+    unsafe { archive::crsf_log_entry(seconds, frame.as_ptr(), frame.len(), out.as_mut_ptr(), out.len()) }.into()
+}

@@ -33,6 +33,19 @@ pub enum CrsfParsingError {
     BadAddress,
 }
 
+/// What a log's reader or writer refuses.
+#[derive(Clone, Copy, Debug, PartialEq, Eq)]
+pub enum LogError {
+    /// 5, of a writer: the buffer is too short for what would be written. Nothing is written.
+    BufferOverflow,
+    /// 8, of a reader's bytes: they are not a valid state. Nothing is changed.
+    BadState,
+    /// 9, of a reader: a malformed number, a first number other than 1, an end inside an entry or before the 1, or a byte behind the end.
+    InvalidLog,
+    /// 10: a length that is not 4 to 64, or bytes that are not one whole valid frame. A writer writes nothing then.
+    InvalidFrame,
+}
+
 impl CrsfStreamError {
     pub(crate) fn of(answer: Answer) -> Self {
         match answer.number {
@@ -51,6 +64,17 @@ impl CrsfParsingError {
             6 => CrsfParsingError::ChannelRange(answer.first.into()),
             7 => CrsfParsingError::BadAddress,
             _ => CrsfParsingError::BufferOverflow,
+        }
+    }
+}
+
+impl LogError {
+    pub(crate) fn of(answer: Answer) -> Self {
+        match answer.number {
+            5 => LogError::BufferOverflow,
+            9 => LogError::InvalidLog,
+            10 => LogError::InvalidFrame,
+            _ => LogError::BadState,
         }
     }
 }
@@ -77,5 +101,17 @@ impl fmt::Display for CrsfParsingError {
     }
 }
 
+impl fmt::Display for LogError {
+    fn fmt(&self, f: &mut fmt::Formatter<'_>) -> fmt::Result {
+        match self {
+            LogError::BufferOverflow => write!(f, "the buffer is too short"),
+            LogError::BadState => write!(f, "not a valid state of a log's reader"),
+            LogError::InvalidLog => write!(f, "not a log"),
+            LogError::InvalidFrame => write!(f, "not one whole valid frame"),
+        }
+    }
+}
+
 impl std::error::Error for CrsfStreamError {}
 impl std::error::Error for CrsfParsingError {}
+impl std::error::Error for LogError {}

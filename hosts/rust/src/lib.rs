@@ -7,10 +7,12 @@
 
 mod entry;
 mod error;
+mod log;
 mod packets;
 mod parser;
 
-pub use error::{CrsfParsingError, CrsfStreamError};
+pub use error::{CrsfParsingError, CrsfStreamError, LogError};
+pub use log::{log_entry, log_start, LogEntry, LogReader, LOG_ENTRY_MAX};
 pub use packets::{
     write_packet_to_buffer, BaroAltitude, Battery, CrsfPacket, Gps, GpsExtended, LinkStatistics, RcChannelsPacked, Rpm, Temp, Voltages,
 };
