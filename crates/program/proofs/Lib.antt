@@ -1,4 +1,3 @@
--- `Same`: words are the same just where their bytes are. `Asks`: what an argument asks for lies within it. `Unique`: one answer.
+-- `Same`: words are the same just where their bytes are. `Unique`: one answer.
 pub mod Same
-mod Asks
 pub mod Unique

@@ -1,4 +1,4 @@
--- Each public promise that is an equation leaves one answer. What a read brought and what the arguments are is outside any contract.
+-- Each public promise that is an equation leaves one answer. What a read brings and what the arguments are is outside any contract.
 -- Assumes nothing.
 use mathlib.Core.Bool.{Bool}
 use Prim.Native.Nat.{ℕ}
@@ -14,4 +14,4 @@ pub is-option-one : OneAnswer {Seen = Bool} is-option.Post (λ κs r s. r)
 is-option-one κs a r r′ s s′ = same
 
 pub after-print-one : OneAnswer {Seen = ℕ} after-print.Post (λ κs r s. r)
-after-print-one κs a r r′ s s′ = same
+after-print-one κs a r r′ s s′ p q = same (p .0) (q .0)

@@ -4,30 +4,38 @@ use crate::words::is_option;
 use crate::words::is_word;
 use libc::STDERR_FILENO;
 ghost use mathlib.Core.Path.{_≡_};
-ghost use lib.ListN.{length};
-ghost use Rattle.program.specs.Answers.{askedBy, Asks};
+ghost use Rattle.io.specs.Counts.{Counts};
+ghost use Rattle.program.specs.Answers.{askedBy};
 
 pub enum Asked {
     // To read standard input.
     Input,
-    // To read the file whose name is that many bytes at the front of the buffer.
-    File(usize),
+    // To read the file whose name stands at the front of the buffer.
+    File,
     Help,
     Version,
-    // What can't be done: it is said on standard error. The status, 1 or 2.
-    Nothing(u8),
+    // What can't be done, as standard error says: status 1.
+    Failed,
+    // Bad usage, as standard error says: status 2.
+    Refused,
+}
+
+// What is asked, and how many bytes the name of a file has.
+pub struct Arguments {
+    pub asked: Asked,
+    pub len: usize,
 }
 
 // Bad usage.
 fn refuse(usage: &[u8]) -> Asked
-    ensures { λ r. ⌜ r ≡ Asked.Nothing 2 ⌝ }
+    ensures { λ r. ⌜ r ≡ Asked.Refused ⌝ }
 {
     io::write_all(STDERR_FILENO, usage);
-    Asked::Nothing(2)
+    Asked::Refused
 }
 
 fn refuse_option(name: &[u8], usage: &[u8], word: &[u8]) -> Asked
-    ensures { λ r. ⌜ r ≡ Asked.Nothing 2 ⌝ }
+    ensures { λ r. ⌜ r ≡ Asked.Refused ⌝ }
 {
     io::write_all(STDERR_FILENO, name);
     io::write_all(STDERR_FILENO, b": there is no option ");
@@ -51,33 +59,42 @@ fn asked_by(name: &[u8], usage: &[u8], word: &[u8]) -> Asked
     if is_option(word) {
         return refuse_option(name, usage, word);
     }
-    Asked::File(word.len())
+    Asked::File
 }
 
-// The first argument comes to the buffer.
-fn asked_first(name: &[u8], usage: &[u8], word: &mut [u8]) -> Asked
-    ensures { λ r. ⌜ Asks (length (now (word .exit))) r ⌝ }
+fn read_argument(name: &[u8], usage: &[u8], word: &mut [u8]) -> Arguments
+    ensures { λ r. ⌜ Counts (r .len) (now (word .exit)) ⌝ }
 {
-    let n = os::arg(1, word);
+    let len = os::arg(1, word);
     if os::errno() != 0 {
         tell(name, b"the argument");
-        return Asked::Nothing(1);
+        return Arguments {
+            asked: Asked::Failed,
+            len: 0,
+        };
     }
-    asked_by(name, usage, &word[..n])
+    let asked = asked_by(name, usage, &word[..len]);
+    Arguments { asked, len }
 }
 
-// What the arguments ask for. A name in them comes to the buffer.
-pub fn arguments(name: &[u8], usage: &[u8], word: &mut [u8]) -> Asked
-    ensures { λ r. ⌜ Asks (length (now (word .exit))) r ⌝ }
+// What the arguments ask for. The first comes to the buffer.
+pub fn read_arguments(name: &[u8], usage: &[u8], word: &mut [u8]) -> Arguments
+    ensures { λ r. ⌜ Counts (r .len) (now (word .exit)) ⌝ }
 {
     let count = os::arg_count();
     if count < 2 {
-        return Asked::Input;
+        return Arguments {
+            asked: Asked::Input,
+            len: 0,
+        };
     }
     if count == 2 {
-        return asked_first(name, usage, word);
+        return read_argument(name, usage, word);
     }
     io::write_all(STDERR_FILENO, name);
     io::write_all(STDERR_FILENO, b": more than one argument\n");
-    refuse(usage)
+    Arguments {
+        asked: refuse(usage),
+        len: 0,
+    }
 }

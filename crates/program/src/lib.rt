@@ -4,21 +4,21 @@
 mod argument;
 pub mod words;
 
+pub use argument::Arguments;
 pub use argument::Asked;
-pub use argument::arguments;
+pub use argument::read_arguments;
 use libc::STDERR_FILENO;
 use libc::STDOUT_FILENO;
 ghost use mathlib.Core.Path.{_≡_};
 ghost use Prim.Native.Nat.{_≤_};
 ghost use lib.ListN.{length};
-ghost use Rattle.program.specs.Answers.{CameWithin, printed};
+ghost use Rattle.io.specs.Counts.{Counts};
+ghost use Rattle.program.specs.Answers.{printed};
 
-// What a read brought.
-pub enum Came {
-    // That many bytes, at the front of the piece: one at least.
-    Bytes(usize),
-    End,
-    Failed,
+// What a read brought: that many bytes at the front of the piece, none where the input has ended or the read has failed.
+pub struct Came {
+    pub count: usize,
+    pub has_failed: bool,
 }
 
 // How many bytes one write took, and whether to go on.
@@ -73,23 +73,29 @@ pub fn print(text: &[u8]) -> bool {
 
 // One read.
 pub fn read_some(fd: i32, piece: &mut [u8]) -> Came
-    ensures { λ r. ⌜ CameWithin (length (now (piece .exit))) r ⌝ }
+    ensures { λ r. ⌜ Counts (r .count) (now (piece .exit)) ⌝ }
 {
     let mut turns = u64::MAX;
     while 0 < turns {
         turns -= 1;
         let got = libc::read(fd, piece);
-        if 0 < got {
-            return Came::Bytes(io::count(got, piece));
-        }
-        if got == 0 {
-            return Came::End;
+        if 0 <= got {
+            return Came {
+                count: io::count(got, piece),
+                has_failed: false,
+            };
         }
         if !is_interrupted() {
-            return Came::Failed;
+            return Came {
+                count: 0,
+                has_failed: true,
+            };
         }
     }
-    Came::Failed
+    Came {
+        count: 0,
+        has_failed: true,
+    }
 }
 
 // What failed, and why, by errno: no call of C stands between the failure and this.
@@ -110,7 +116,7 @@ pub fn open(name: &[u8], path: &[u8]) -> i32 {
 
 // The status of a text that was printed or not, and the cause where it was not.
 pub fn after_print(name: &[u8], is_written: bool) -> u8
-    ensures { λ r. ⌜ r ≡ printed «is_written» ⌝ }
+    ensures { λ r. ⌜ (r ≡ printed «is_written») × (r ≤ 1) ⌝ }
 {
     if is_written {
         return 0;

@@ -57,10 +57,12 @@ loop-again c =
     let l = a .word .now in
     let k = a .other .now in (
       omega arith,
-      (omega arith,
-      at .loop .inv .1 .1
-          ∙ at-place l k i (omega arith) (omega arith)
-          ∙ ap (λ (t : Bool). t && sameWord (drop (i + 1) l) (drop (i + 1) k)) (eq-eqb _ _ (c .if2 .left))),
+      (
+        omega arith,
+        at .loop .inv .1 .1
+            ∙ at-place l k i (omega arith) (omega arith)
+            ∙ ap (λ (t : Bool). t && sameWord (drop (i + 1) l) (drop (i + 1) k)) (eq-eqb _ _ (c .if2 .left)),
+      ),
     )
 
 returns-3 : tie.Need-returns-3 Inv-loop μ-loop
