@@ -2,15 +2,20 @@
 -- Assumes nothing.
 use mathlib.Core.Path.{_≡_, refl, sym, ap, ap₂, _∙_}
 use mathlib.Core.List.{List, [], _∷_, _++_, append-assoc, append-nil}
-use Prim.Native.Nat.{ℕ, _+_, _-_}
+use Prim.Native.Nat.{ℕ, _+_, _-_, _≤_}
 use native.Mathlib.Omega.{arith}
+use borrow.Author.Tests.{leb-true}
 use lib.ListN.{length, getD}
+use Rattle.base.specs.Parts.{fitsIn}
+use Rattle.base.proofs.Tests.{by-test}
 use Rattle.refusals.specs.declared.Refusal.{Refusal}
 use Rattle.reading.specs.Answer.{Frame}
+use Rattle.lines.specs.Put.{putWithin}
 use Rattle.lines.specs.Lines.{frameLine, frameLineAt, line}
 use Rattle.log.specs.Entry.{Entry}
 use Rattle.log.specs.Reading.{State, refused, start, Reading, readFrom, reading}
 use Rattle.log.proofs.Reading.{goes-on, stays-refused}
+use Rattle.log_lines.specs.Part.{frontOf}
 use Rattle.log_lines.specs.Text.{entryLine, entryLines, lastLine, wholeText, textFrom}
 
 pub lines-append : (xs ys : List Entry) → entryLines (xs ++ ys) ≡ entryLines xs ++ entryLines ys
@@ -64,3 +69,11 @@ refused-is-last s t r e =
 pub listing-line : (c : List ℕ) → getD c 1 0 + 2 ≡ length c → frameLineAt c 0 ≡ line (Frame c)
 unfolding line
 listing-line c e = let payload : getD c 1 0 - 2 ≡ length c - 4 = omega arith in ap (frameLine (getD c 0 0) (getD c 2 0)) payload
+
+-- ---- What is written at the front of a buffer lies within it
+pub front-fits : (text out : List ℕ) {r : ℕ} {outAfter : List ℕ} → (r, outAfter) ≡ frontOf text out → r ≤ length out
+unfolding putWithin
+front-fits text out e =
+    by-test (fitsIn (length out) 0 (length text))
+    (λ t. let q = ap (λ (x : ℕ × List ℕ). x .0) (simp t at e) in omega (arith, leb-true (0 + length text) (length out) t))
+    (λ t. let q = ap (λ (x : ℕ × List ℕ). x .0) (simp t at e) in omega arith)
