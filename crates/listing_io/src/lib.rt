@@ -1,14 +1,15 @@
 // The listing of a file or of standard input on standard output, through fixed buffers. What a read yields and what becomes of a write is outside any
 // contract; the lines of what was read, handed to a write, are promised, and so is what is held after a piece. What was read is listed and written
-// before more is read. A read or a write that fails ends the listing; one that a signal interrupted is asked again.
+// before more is read. A read or a write that fails ends the listing.
 mod command;
 
-use libc::STDOUT_FILENO;
 use lines::line::LONGEST;
 use lines::line::list_held;
 use listing::Listed;
 use listing::Status;
 use listing::list_in;
+use program::print;
+use program::read_some;
 use stream::LIMIT;
 ghost use mathlib.Core.Path.{_≡_};
 ghost use Prim.Native.Nat.{_≤_, _<_};
@@ -57,51 +58,6 @@ struct Rest {
     is_listed: bool,
 }
 
-// How many bytes one write took, and whether to go on.
-struct Put {
-    taken: usize,
-    goes_on: bool,
-}
-
-fn is_interrupted() -> bool {
-    os::errno() == libc::EINTR
-}
-
-fn write_some(bytes: &[u8]) -> Put
-    ensures { λ r. ⌜ r .taken ≤ length (now (bytes .entry)) ⌝ }
-{
-    let got = libc::write(STDOUT_FILENO, bytes);
-    if got < 0 {
-        return Put {
-            taken: 0,
-            goes_on: is_interrupted(),
-        };
-    }
-    let taken = io::count(got, bytes);
-    Put {
-        taken,
-        goes_on: 0 < taken,
-    }
-}
-
-// Writes all of the bytes. The loop counts its turns down, from a number that no run uses up.
-fn write_text(bytes: &[u8]) -> bool {
-    let mut done = 0;
-    let mut turns = u64::MAX;
-    while 0 < turns {
-        turns -= 1;
-        if bytes.len() <= done {
-            return true;
-        }
-        let put = write_some(&bytes[done..]);
-        done += put.taken;
-        if !put.goes_on {
-            return false;
-        }
-    }
-    false
-}
-
 fn is_last(status: Status) -> bool
     ensures { λ r. ⌜ r ≡ isLast status ⌝ }
 {
@@ -118,7 +74,7 @@ fn list_part(places: &mut [u8], out: &mut [u8], start: usize, end: usize, input:
     ensures { λ r. ⌜ Lists (now (places .entry)) start end (now (input .entry)) (now (out .entry)) (now (places .exit)) (now (out .exit)) (r .listed) ⌝ }
 {
     let listed = list_in(places, start, end, input, out);
-    let is_written = write_text(&out[..listed.written]);
+    let is_written = print(&out[..listed.written]);
     Part { listed, is_written }
 }
 
@@ -169,14 +125,6 @@ fn after_piece(is_listed: bool) -> Next {
     }
 }
 
-fn after_failed_read() -> Next {
-    if is_interrupted() {
-        Next::Read
-    } else {
-        Next::ReadFailed
-    }
-}
-
 // One read, and the lines of what came.
 fn list_read(
     fd: i32,
@@ -189,20 +137,22 @@ fn list_read(
     requires { ⌜ Sound (length (now places)) start end ⌝ }
     ensures { λ r. ⌜ Sound (length (now (places .entry))) (r .start) (r .end) ⌝ }
 {
-    let got = libc::read(fd, piece);
-    if got < 0 {
-        let next = after_failed_read();
-        return State { start, end, next };
+    let came = read_some(fd, piece);
+    if came.has_failed {
+        return State {
+            start,
+            end,
+            next: Next::ReadFailed,
+        };
     }
-    if got == 0 {
+    if came.count == 0 {
         return State {
             start,
             end,
             next: Next::End,
         };
     }
-    let n = io::count(got, piece);
-    let rest = list_piece(places, out, start, end, &piece[..n]);
+    let rest = list_piece(places, out, start, end, &piece[..came.count]);
     let next = after_piece(rest.is_listed);
     State {
         start: rest.start,
@@ -248,7 +198,7 @@ fn list_reads(fd: i32, places: &mut [u8], out: &mut [u8], piece: &mut [u8]) -> S
 fn write_held(held: u8) -> bool {
     let mut line = [0u8; LONGEST];
     let n = list_held(&mut line, held);
-    write_text(&line[..n])
+    print(&line[..n])
 }
 
 // The last line, where the input has ended.

@@ -76,7 +76,10 @@ pub(crate) fn feed_number(wanted: Wanted, value: u32, groups: u8, byte: u8) -> R
 {
     let step = groups::next(GREATEST, value as u64, weight_of(groups), byte);
     match step {
-        Step::GoesOn { value: v, weight: _ } => Reader::Number {
+        Step::GoesOn {
+            value: v,
+            weight: _,
+        } => Reader::Number {
             wanted,
             value: v as u32,
             groups: groups + 1,

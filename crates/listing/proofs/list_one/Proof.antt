@@ -1,5 +1,6 @@
 -- `listing::list_one` meets its contract. Assumes nothing.
-use Rattle.lines.proofs.Puts.{puts-line, puts-as}
+use Rattle.lines.specs.Lines.{longest}
+use Rattle.lines.proofs.Puts.{puts-within, puts-as}
 use Rattle.listing.proofs.Said.{line-is}
 use borrow.Author.Needs.{needs}
 use Rattle.listing.proofs.list_one.Statement.{statement}
@@ -25,7 +26,7 @@ returns c =
     let steps = step .step-in .ensures in
     record {
       steps = steps;
-      puts = puts-as (line-is (steps .moves (start .pre .0))) (puts-line (start .pre .1) (put .put-line .ensures .0));
+      puts = puts-as (line-is (steps .moves (start .pre .0))) (puts-within longest (start .pre .1) (put .put-line .ensures .0));
       short = put .put-line .ensures .1;
     }
 

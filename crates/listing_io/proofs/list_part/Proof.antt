@@ -16,14 +16,14 @@ fits c =
 list-in-requires : tie.Need-list-in-requires
 list-in-requires c κs = search needs
 
-slice-reshare-prefix-write-text : tie.Need-slice-reshare-prefix-write-text
-slice-reshare-prefix-write-text c = fits (c .before .before .before .before)
+slice-reshare-prefix-print : tie.Need-slice-reshare-prefix-print
+slice-reshare-prefix-print c = fits (c .before .before .before .before)
 
-slice-aggregate-write-text : tie.Need-slice-aggregate-write-text
-slice-aggregate-write-text c = simp length-take (omega (arith, fits (c .before .before .before .before .before)))
+slice-aggregate-print : tie.Need-slice-aggregate-print
+slice-aggregate-print c = simp length-take (omega (arith, fits (c .before .before .before .before .before)))
 
-write-text-requires : tie.Need-write-text-requires
-write-text-requires c κs = search needs
+print-requires : tie.Need-print-requires
+print-requires c κs = search needs
 
 same-length : tie.Need-same-length
 same-length c = search needs
@@ -39,9 +39,9 @@ list-part-spec =
     tie.close
     (tie.spec
     list-in-requires
-    slice-reshare-prefix-write-text
-    slice-aggregate-write-text
-    write-text-requires
+    slice-reshare-prefix-print
+    slice-aggregate-print
+    print-requires
     same-length
     same-length-2
     returns)

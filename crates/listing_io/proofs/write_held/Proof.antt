@@ -15,12 +15,12 @@ list-held-requires c κs = search needs
 array-share-prefix-line : tie.Need-array-share-prefix-line
 array-share-prefix-line c = omega (arith, held-fits _ _ (c .before .list-held .ensures))
 
-slice-aggregate-write-text : tie.Need-slice-aggregate-write-text
-slice-aggregate-write-text c =
+slice-aggregate-print : tie.Need-slice-aggregate-print
+slice-aggregate-print c =
     simp length-take (omega (arith, held-fits _ _ (c .before .before .list-held .ensures)))
 
-write-text-requires : tie.Need-write-text-requires
-write-text-requires c κs = search needs
+print-requires : tie.Need-print-requires
+print-requires c κs = search needs
 
 returns : tie.Need-returns
 returns c = search needs
@@ -32,6 +32,6 @@ write-held-spec =
     slice-aggregate-list-held
     list-held-requires
     array-share-prefix-line
-    slice-aggregate-write-text
-    write-text-requires
+    slice-aggregate-print
+    print-requires
     returns)

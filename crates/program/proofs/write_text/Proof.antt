@@ -1,15 +1,15 @@
--- `listing_io::write_text` is safe and ends. The measure is the number of turns that are left. Assumes nothing.
+-- `program::write_text` is safe and ends. The measure is the number of turns that are left. Assumes nothing.
 use Prim.Native.Nat.{_+_, _-_, _≤_}
 use native.Mathlib.Omega.{arith}
 use lib.ListN.{length, drop, length-take, length-drop}
-use Rattle.listing_io.proofs.write_text.Statement.{statement}
-use Rattle.listing_io.proofs.write_text.Tie as tie
+use Rattle.program.proofs.write_text.Statement.{statement}
+use Rattle.program.proofs.write_text.Tie as tie
 
 abbrev Inv-loop : tie.InvT-loop
-Inv-loop bytes done₀ turns₀ done turns = done ≤ length bytes
+Inv-loop fd bytes done₀ turns₀ done turns = done ≤ length bytes
 
 abbrev μ-loop : tie.MeasureT-loop
-μ-loop bytes done₀ turns₀ done turns = turns
+μ-loop fd bytes done₀ turns₀ done turns = turns
 
 -- what a write took lies within the bytes that were left
 taken-in : (c : tie.After-write-some Inv-loop μ-loop)

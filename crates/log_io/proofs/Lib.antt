@@ -1,0 +1,3 @@
+-- `Pieces`: what a piece leaves. `Laws`: piece after piece.
+mod Pieces
+pub mod Laws

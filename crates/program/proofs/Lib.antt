@@ -1,0 +1,3 @@
+-- `Same`: words are the same just where their bytes are. `Unique`: one answer.
+pub mod Same
+pub mod Unique

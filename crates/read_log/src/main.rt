@@ -1,0 +1,3 @@
+fn main() {
+    log_io::crsf_log();
+}
