@@ -10,9 +10,10 @@ use head::reader_in;
 use log_reader::Answer;
 use log_reader::Ending;
 use refusals::Refusal;
+use refusals::row_of;
 ghost use mathlib.Core.Path.{_≡_};
 ghost use Rattle.host_log.specs.State.{hasForm, isState};
-ghost use Rattle.host_log.specs.Calls.{StateSteps, StateEnds, endingRow, resetState};
+ghost use Rattle.host_log.specs.Calls.{badState, StateSteps, StateEnds, endingRow, resetState};
 
 // What a call took and says.
 pub struct Replied {
@@ -40,11 +41,22 @@ pub fn is_state(state: &[u8]) -> bool
     log_reader::is_state(&state[PLACES..], reader_in(state))
 }
 
-// One call: up to the next entry, a refusal, or the end of the piece.
+// Whether the reader refused its state.
+fn is_bad_state(answer: Answer) -> bool
+    ensures { λ r. ⌜ r ≡ badState answer ⌝ }
+{
+    match answer {
+        Answer::More => false,
+        Answer::Entry { .. } => false,
+        Answer::Refused(refusal) => row_of(refusal).number == 8,
+    }
+}
+
+// One call: up to the next entry, a refusal, or the end of the piece. The reader tests the state: where it refuses that, the head stays too.
 pub fn step(state: &mut [u8], input: &[u8]) -> Replied
     ensures { λ r. ⌜ StateSteps (now (state .entry)) (now (input .entry)) (now (state .exit)) r ⌝ }
 {
-    if !is_state(state) {
+    if !has_form(state) {
         return Replied {
             taken: 0,
             answer: Answer::Refused(Refusal::BadState),
@@ -52,9 +64,15 @@ pub fn step(state: &mut [u8], input: &[u8]) -> Replied
     }
     let reader = reader_in(state);
     let answered = log_reader::next(&mut state[PLACES..], reader, input);
+    let answer = answered.answer;
+    if is_bad_state(answer) {
+        return Replied {
+            taken: answered.taken,
+            answer,
+        };
+    }
     let further = answered.reader;
     put_reader(state, further);
-    let answer = answered.answer;
     Replied {
         taken: answered.taken,
         answer,

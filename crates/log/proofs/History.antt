@@ -152,3 +152,19 @@ pub same-end : {stream unread unread₂ : List ℕ} {st st₂ : State} {es es₂
 same-end h h₂ e e₂ =
     let q = sym (faithful h .all e) ∙ faithful h₂ .all e₂ in
     (ap (λ (r : Reading). r .entries) q, ap (λ (r : Reading). r .state) q)
+
+-- a refusal that a call gives is where the reader then stands
+pub call-stops : (st : State) (s : List ℕ) {r : Refusal} → call st s .said ≡ refuses r → call st s .state ≡ refused r
+unfolding call saidAt
+call-stops st [] {r} e = at st e
+  where
+    at : (st : State) → saidAt st ≡ refuses r → st ≡ refused r
+    at (number want v w) q = absurd (let z : _≡_ {A = ℕ} 0 1 = cc in omega arith)
+    at (frame t n h) q = absurd (let z : _≡_ {A = ℕ} 0 1 = cc in omega arith)
+    at (refused k) q = cc
+    at ended q = absurd (let z : _≡_ {A = ℕ} 0 1 = cc in omega arith)
+call-stops st (b ∷ s) {r} e = by (feed st b) refl (λ st′ q. call-stops st′ s q)
+  where
+    by : (f : Fed) → feed st b ≡ f → ((st′ : State) → call st′ s .said ≡ refuses r → call st′ s .state ≡ refused r) → call st (b ∷ s) .state ≡ refused r
+    by (on st′) q rest = rw (call-on st st′ b s q) (rest st′ (ap (λ (c : Call). c .said) (sym (call-on st st′ b s q)) ∙ e))
+    by (entry x) q rest = absurd (let z : _≡_ {A = ℕ} 0 1 = cc (ap (λ (c : Call). c .said) (sym (call-entry st x b s q)) ∙ e) in omega arith)
