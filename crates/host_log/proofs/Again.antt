@@ -15,7 +15,6 @@ use Rattle.base.proofs.Tests.{by-test}
 use Rattle.refusals.specs.Row.{rowOf, numberOf}
 use Rattle.refusals.specs.declared.Refusal.{Refusal}
 use Rattle.refusals.specs.declared.Refusal.the-variants.{InvalidLog, InvalidFrame}
-use Rattle.refusals.proofs.Rows.{refusalOf, back}
 use Rattle.numbers.specs.BigEndian as be
 use Rattle.reading.specs.Reading.{limit}
 use Rattle.log.specs.Entry.{greatest}
@@ -29,6 +28,7 @@ use Rattle.log_reader.specs.declared.Wanted.the-variants.{Version, Seconds, Siz
 use Rattle.log_reader.specs.declared.Reader.{Reader}
 use Rattle.log_reader.specs.declared.Reader.the-variants.{Number, Frame, Refused, Ended}
 use Rattle.log_reader.proofs.Readers.{few-groups, below-weight, state-room, state-refused}
+use Rattle.log_reader.proofs.Reached.{nine, ten}
 use Rattle.log_reader.proofs.FrameSteps.{begun}
 use Rattle.log_reader.proofs.Turns.{number-state}
 use Rattle.host_log.specs.declared.head.Head.{Head}
@@ -63,17 +63,11 @@ seconds-small p Ended s = tt
 
 -- ---- the refusals of a log, by their numbers
 
-nine : (r : Refusal) → numberOf r ≡ 9 → InvalidLog ≡ r
-nine r e = sym (rw e) ∙ back r
-
-ten : (r : Refusal) → numberOf r ≡ 10 → InvalidFrame ≡ r
-ten r e = sym (rw e) ∙ back r
-
 refused-again : (r : Refusal) → ofLogs r ≡ true → readerOf (headOf (Refused r)) ≡ Refused r
 unfolding ofLogs
 refused-again r e =
-    by-test (eqb (numberOf r) 9) (λ t. simp t (ap Refused (nine r (eqb-true _ _ t))))
-    (λ t. simp t (ap Refused (ten r (eqb-true (numberOf r) 10 (simp t at e)))))
+    by-test (eqb (numberOf r) 9) (λ t. simp t (ap Refused (sym (nine r (eqb-true _ _ t)))))
+    (λ t. simp t (ap Refused (sym (ten r (eqb-true (numberOf r) 10 (simp t at e))))))
 
 -- ---- the head of a reader that is a state
 

@@ -238,7 +238,7 @@ scan n h (x ∷ q) low high b short =
     differ z = let y : _≡_ {A = ℕ} 0 1 = cc in omega arith
 
 -- before its first byte a frame of any good length may come
-anything : (n : ℕ) → 4 ≤ n → n ≤ limit → Begins n []
+pub anything : (n : ℕ) → 4 ≤ n → n ≤ limit → Begins n []
 unfolding listed fine
 anything n low high = begins-front n [] (0 ∷ []) (fine-begins n (0 ∷ []) low high (omega arith) (omega arith) refl)
 

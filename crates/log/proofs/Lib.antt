@@ -8,3 +8,4 @@ pub mod Edges
 pub mod Weights
 pub mod Room
 pub mod Small
+pub mod Leads
