@@ -4,7 +4,7 @@ use mathlib.Core.Path.{_≡_, refl, sym, ap, _∙_}
 use mathlib.Core.Bool.{Bool, true, false, not, and-eq-true-iff}
 use mathlib.Core.Logic.{_⊎_}
 use mathlib.Core.List.{List}
-use Prim.Native.Nat.{ℕ, zero, suc, _+_, _*_, _≤_, _<_}
+use Prim.Native.Nat.{ℕ, zero, suc, _+_, _*_, _^_, _≤_, _<_}
 use native.Mathlib.Omega.{arith}
 use borrow.Author.Tests.{ltb-true, ltb-false, lt-ltb, le-ltb, le-leb, lt-leb, leb-true, eq-eqb, ne-eqb}
 use lib.Dec.{ltb, leb, eqb}
@@ -19,7 +19,7 @@ use Rattle.packets.specs.Listed.{listed}
 use Rattle.groups.specs.Reading.{step, stepOf}
 use Rattle.groups.specs.declared.Step.{Step}
 use Rattle.groups.specs.declared.Step.the-variants.{GoesOn, Done, Malformed}
-use Rattle.groups.proofs.Reading.{on-below, on-weight, done-small}
+use Rattle.groups.proofs.Reading.{step-done, on-below, on-weight, done-small}
 use Rattle.reading.specs.Reading.{limit}
 use Rattle.log.specs.Entry.{greatest}
 use Rattle.log.specs.Reading.{State, number, refused, meaning, fine, feedNumber}
@@ -225,3 +225,14 @@ module _ (wanted : Wanted) (v g b : ℕ) (state : canGoOn v g ≡ true) {x : Ste
   pub number-bad : x ≡ Malformed → FedNumber wanted v g b (Refused InvalidLog)
   unfolding feedNumber
   number-bad q = is-also (sym (rw (the-step ∙ q, feedNumber))) (is-refused InvalidLog of-logs-9)
+
+-- a number of one group
+pub number-one : (wanted : Wanted) (v g b : ℕ) → canGoOn v g ≡ true → g ≡ 0 → b < 128 → {r : Reader} → Means wanted b r → FedNumber wanted v g b r
+unfolding feedNumber
+number-one wanted v g b state e low m =
+    let below : v < 128 ^ g = below-weight v g state in
+    let one : 128 ^ g ≡ 1 = rw e refl in
+    let none : v ≡ 0 = omega arith in
+    let done : step greatest v (128 ^ g) b ≡ Done b =
+    ap (λ (w : ℕ). step greatest v w b) one ∙ step-done greatest v 1 b low (λ (h : 1 < 1). absurd (omega arith)) (omega arith) ∙ ap Done (omega arith) in
+    is-also (sym (rw (done, feedNumber))) m

@@ -70,10 +70,17 @@ fn meant(wanted: Wanted, n: u32) -> Reader
     }
 }
 
+// One byte more of a number.
 pub(crate) fn feed_number(wanted: Wanted, value: u32, groups: u8, byte: u8) -> Reader
     requires { ⌜ canGoOn value groups ≡ true ⌝ }
     ensures { λ r. ⌜ FedNumber wanted value groups byte r ⌝ }
 {
+    // most numbers have one group
+    if groups == 0 {
+        if byte < 128 {
+            return meant(wanted, byte as u32);
+        }
+    }
     let step = groups::next(GREATEST, value as u64, weight_of(groups), byte);
     match step {
         Step::GoesOn {
