@@ -1,4 +1,4 @@
--- What the writer is for (RULES 16.9, 16.10): a start and then entries make the log of these entries, and nothing else in the buffer changes; it is read
+-- What the writer is for (RULES 16.11, 16.10): a start and then entries make the log of these entries, and nothing else in the buffer changes; it is read
 -- as these entries, and accepted; an accepted log written again is that log. And where an entry is refused, and how long one is.
 -- Assumes nothing.
 use mathlib.Core.Path.{_≡_, refl, sym, ap, _∙_, subst}

@@ -1,4 +1,4 @@
--- Entries as bytes, at both sides of each number that the writer turns on (RULES 16.9): one table, which proofs/Edges computes.
+-- Entries as bytes, at both sides of each number that the writer turns on (RULES 16.11): one table, which proofs/Edges computes.
 -- Assumes nothing.
 use Prim.Native.Nat.{ℕ}
 use mathlib.Core.List.{List, [], _∷_, _++_}

@@ -1,4 +1,4 @@
--- A log as it is written: a start at the front of a buffer, and then entries, each put into the places behind the one before (RULES 16.9).
+-- A log as it is written: a start at the front of a buffer, and then entries, each put into the places behind the one before (RULES 16.11).
 -- Assumes nothing.
 use mathlib.Core.Path.{_≡_}
 use mathlib.Core.List.{List, [], _∷_, _++_}

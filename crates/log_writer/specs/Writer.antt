@@ -1,4 +1,4 @@
--- What the writer of a log writes (RULES 16.9): the start, or one entry. Bytes that are not one whole valid frame are refused with 10 in any buffer, so
+-- What the writer of a log writes (RULES 16.11): the start, or one entry. Bytes that are not one whole valid frame are refused with 10 in any buffer, so
 -- before a buffer that is too short, 5.
 -- Assumes nothing.
 use mathlib.Core.Bool.{Bool, _&&_}
