@@ -50,22 +50,22 @@ fn list_file(path: &[u8]) -> u8
 }
 
 fn print_help() -> bool {
-    print(b"usage: list [FILE]\n\n")
-        && print(
-            b"Lists the CRSF frames of an upload, or of standard input where FILE is - or is not named. Each line is written as soon\n",
-        )
-        && print(b"as it is known:\n")
-        && print(b"  frame C8 16 22   a frame: address, packet type, payload length\n")
-        && print(b"  sync 55          a byte that is not an address\n")
-        && print(b"  length 3F        after an address, a length byte that is not 2 to 62\n")
-        && print(b"  crc 00 01        the check byte should be the first and is the second\n")
-        && print(
-            b"  held 3           the last line: the input has ended, and this many bytes wait for the rest of a frame\n\n",
-        )
-        && print(b"  --help, --version\n\n")
-        && print(
-            b"Status: 0 if everything was read and written, 1 if FILE can't be opened or a read or a write failed, 2 for bad usage.\n",
-        )
+    print(
+        b"usage: list [FILE]
+
+Lists the CRSF frames of an upload, or of standard input where FILE is - or is not named. Each line is written as soon
+as it is known:
+  frame C8 16 22   a frame: address, packet type, payload length
+  sync 55          a byte that is not an address
+  length 3F        after an address, a length byte that is not 2 to 62
+  crc 00 01        the check byte should be the first and is the second
+  held 3           the last line: the input has ended, and this many bytes wait for the rest of a frame
+
+  --help, --version
+
+Status: 0 if everything was read and written, 1 if FILE can't be opened or a read or a write failed, 2 for bad usage.
+",
+    )
 }
 
 pub(crate) fn command() -> u8

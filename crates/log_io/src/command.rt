@@ -59,26 +59,22 @@ fn list_file(path: &[u8]) -> u8
 }
 
 fn print_help() -> bool {
-    print(b"usage: log [FILE]\n\n")
-        && print(
-            b"Lists the entries of a kit log, or of standard input where FILE is - or is not named. Each line is written as soon as it is\n",
-        )
-        && print(b"known:\n")
-        && print(
-            b"  5 frame C8 16 22   an entry: seconds since the one before, and its frame: address, packet type, payload length\n",
-        )
-        && print(b"  end                the last line: the log is whole\n")
-        && print(
-            b"  refused 9          the last line: a malformed number, a first number other than 1, or an end inside an entry\n",
-        )
-        && print(
-            b"  refused 10         the last line: an entry's bytes are not one whole valid frame\n\n",
-        )
-        && print(b"  --help, --version\n\n")
-        && print(
-            b"Status: 0 if the log is whole and its lines are written, 1 if it is refused, FILE can't be opened, or a read or a write failed,\n",
-        )
-        && print(b"2 for bad usage.\n")
+    print(
+        b"usage: log [FILE]
+
+Lists the entries of a kit log, or of standard input where FILE is - or is not named. Each line is written as soon as it is
+known:
+  5 frame C8 16 22   an entry: seconds since the one before, and its frame: address, packet type, payload length
+  end                the last line: the log is whole
+  refused 9          the last line: a malformed number, a first number other than 1, or an end inside an entry
+  refused 10         the last line: an entry's bytes are not one whole valid frame
+
+  --help, --version
+
+Status: 0 if the log is whole and its lines are written, 1 if it is refused, FILE can't be opened, or a read or a write failed,
+2 for bad usage.
+",
+    )
 }
 
 pub(crate) fn command() -> u8
