@@ -35,13 +35,13 @@ enum-known-step c = search needs
 -- src/number.rt:91:20
 cast-t14 : tie.Need-cast-t14
 cast-t14 c =
-    let n = c .before .before .before in let s = n .before .before .before in let a = s .args in 
+    let n = c .before .before .before in let s = n .before .before .before in let a = s .args in
     let h = goes-fits (a .wanted) (a .value) (a .groups) (a .byte) (s .pre) (n .before .weight-of .ensures) (n .next .ensures) (search needs) (c .before .step .given .1) in omega arith
 
 -- src/number.rt:92:21
 add-t15 : tie.Need-add-t15
 add-t15 c =
-    let n = c .before .before .before in let s = n .before .before .before in let a = s .args in 
+    let n = c .before .before .before in let s = n .before .before .before in let a = s .args in
     let h = goes-few (a .wanted) (a .value) (a .groups) (a .byte) (s .pre) (n .before .weight-of .ensures) (n .next .ensures) (search needs) (c .before .step .given .1) in omega arith
 
 -- src/number.rt:94:20
@@ -51,7 +51,7 @@ enum-known-step-2 c = search needs
 -- src/number.rt:94:40
 cast-meant : tie.Need-cast-meant
 cast-meant c =
-    let n = c .before .before .before in let s = n .before .before .before in let a = s .args in 
+    let n = c .before .before .before in let s = n .before .before .before in let a = s .args in
     let h = number-small (a .wanted) (a .value) (a .groups) (a .byte) (s .pre) (n .before .weight-of .ensures) (n .next .ensures) (c .before .step2 .given .1) in omega arith
 
 -- src/number.rt:94:26
@@ -65,19 +65,19 @@ enum-told c = search needs
 -- src/number.rt:74:1
 returns-2 : tie.Need-returns-2
 returns-2 c =
-    let n = c .before .before .before in let s = n .before .before .before in let a = s .args in 
+    let n = c .before .before .before in let s = n .before .before .before in let a = s .args in
     number-goes (a .wanted) (a .value) (a .groups) (a .byte) (s .pre) (n .before .weight-of .ensures) (n .next .ensures) (search needs) (c .before .step .given .1)
 
 -- src/number.rt:74:1
 returns-3 : tie.Need-returns-3
 returns-3 c =
-    let n = c .before .before .before .before in let s = n .before .before .before in let a = s .args in 
+    let n = c .before .before .before .before in let s = n .before .before .before in let a = s .args in
     number-done (a .wanted) (a .value) (a .groups) (a .byte) (s .pre) (n .before .weight-of .ensures) (n .next .ensures) (c .before .before .step2 .given .1) (c .meant2 .ensures)
 
 -- src/number.rt:74:1
 returns-4 : tie.Need-returns-4
 returns-4 c =
-    let n = c .before .before in let s = n .before .before .before in let a = s .args in 
+    let n = c .before .before in let s = n .before .before .before in let a = s .args in
     number-bad (a .wanted) (a .value) (a .groups) (a .byte) (s .pre) (n .before .weight-of .ensures) (n .next .ensures) (c .enum-told .given .1)
 
 pub feed-number-spec : {M : Type 1} → statement M
