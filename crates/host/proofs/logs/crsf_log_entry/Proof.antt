@@ -4,24 +4,16 @@ use Rattle.host_answer.proofs.Fits.{answered}
 use borrow.Author.Needs.{needs}
 use Rattle.host.proofs.logs.crsf_log_entry.Statement.{statement}
 use Rattle.host.proofs.logs.crsf_log_entry.Tie as tie
-use Rattle.host.proofs.logs.crsf_log_entry.Reads as reads
-use Rattle.host.proofs.logs.crsf_log_entry.Lts as lts
-use Rattle.host_answer.proofs.written.answer_written.Reads as answer-written-reads
-use Rattle.log_writer.proofs.put_entry.Reads as put-entry-reads
 
--- src/logs.rt:53:20
 put-entry-requires : tie.Need-put-entry-requires
 put-entry-requires c κs = search needs
 
--- src/logs.rt:53:5
 answer-written-requires : tie.Need-answer-written-requires
 answer-written-requires c κs = search needs
 
--- src/logs.rt:49:1
 same-length : tie.Need-same-length
 same-length c = search needs
 
--- src/logs.rt:49:1
 returns : tie.Need-returns
 returns c =
     let s = c .before .before .before .before .before .before .before in

@@ -4,77 +4,58 @@ use native.Mathlib.Omega.{arith}
 use borrow.Author.Needs.{needs}
 use Rattle.log_reader.proofs.number.feed_number.Statement.{statement}
 use Rattle.log_reader.proofs.number.feed_number.Tie as tie
-use Rattle.log_reader.proofs.number.feed_number.Reads as reads
-use Rattle.log_reader.proofs.number.feed_number.Lts as lts
-use Rattle.groups.proofs.next.Reads as next-reads
-use Rattle.log_reader.proofs.number.meant.Reads as meant-reads
-use Rattle.log_reader.proofs.number.weight_of.Reads as weight-of-reads
 
--- src/number.rt:81:13
 meant-requires : tie.Need-meant-requires
 meant-requires c κs = search needs
 
--- src/number.rt:81:13
 returns : tie.Need-returns
 returns c =
     let k = c .before in let s = k .before .before in let a = s .args in
     number-one (a .wanted) (a .value) (a .groups) (a .byte) (s .pre) (k .before .if1 .taken) (k .if2 .taken) (c .meant .ensures)
 
--- src/number.rt:84:53
 weight-of-requires : tie.Need-weight-of-requires
 weight-of-requires c κs = let s = c .before in few-groups (s .args .value) (s .args .groups) (s .pre)
 
--- src/number.rt:84:9
 next-requires : tie.Need-next-requires
 next-requires c κs = search needs
 
--- src/number.rt:87:20
 enum-known-step : tie.Need-enum-known-step
 enum-known-step c = search needs
 
--- src/number.rt:91:20
 cast-t14 : tie.Need-cast-t14
 cast-t14 c =
     let n = c .before .before .before in let s = n .before .before .before in let a = s .args in
     let h = goes-fits (a .wanted) (a .value) (a .groups) (a .byte) (s .pre) (n .before .weight-of .ensures) (n .next .ensures) (search needs) (c .before .step .given .1) in omega arith
 
--- src/number.rt:92:21
 add-t15 : tie.Need-add-t15
 add-t15 c =
     let n = c .before .before .before in let s = n .before .before .before in let a = s .args in
     let h = goes-few (a .wanted) (a .value) (a .groups) (a .byte) (s .pre) (n .before .weight-of .ensures) (n .next .ensures) (search needs) (c .before .step .given .1) in omega arith
 
--- src/number.rt:94:20
 enum-known-step-2 : tie.Need-enum-known-step-2
 enum-known-step-2 c = search needs
 
--- src/number.rt:94:40
 cast-meant : tie.Need-cast-meant
 cast-meant c =
     let n = c .before .before .before in let s = n .before .before .before in let a = s .args in
     let h = number-small (a .wanted) (a .value) (a .groups) (a .byte) (s .pre) (n .before .weight-of .ensures) (n .next .ensures) (c .before .step2 .given .1) in omega arith
 
--- src/number.rt:94:26
 meant-requires-2 : tie.Need-meant-requires-2
 meant-requires-2 c κs = search needs
 
--- src/number.rt:95:44
 enum-told : tie.Need-enum-told
 enum-told c = search needs
 
--- src/number.rt:74:1
 returns-2 : tie.Need-returns-2
 returns-2 c =
     let n = c .before .before .before in let s = n .before .before .before in let a = s .args in
     number-goes (a .wanted) (a .value) (a .groups) (a .byte) (s .pre) (n .before .weight-of .ensures) (n .next .ensures) (search needs) (c .before .step .given .1)
 
--- src/number.rt:74:1
 returns-3 : tie.Need-returns-3
 returns-3 c =
     let n = c .before .before .before .before in let s = n .before .before .before in let a = s .args in
     number-done (a .wanted) (a .value) (a .groups) (a .byte) (s .pre) (n .before .weight-of .ensures) (n .next .ensures) (c .before .before .step2 .given .1) (c .meant2 .ensures)
 
--- src/number.rt:74:1
 returns-4 : tie.Need-returns-4
 returns-4 c =
     let n = c .before .before in let s = n .before .before .before in let a = s .args in
