@@ -22,7 +22,7 @@ use Rattle.host_log.specs.Seen.{Seen, seen, frameBy, SeenCall, seenCall}
 use Rattle.host_log.proofs.Fits.{log-fits}
 use Rattle.host_log.proofs.Unique.{one-step, one-end}
 
-whole : (t : ℕ) (a : Answer) → Fits (answerOf t a) → Whole (answerOf t a)
+pub whole : (t : ℕ) (a : Answer) → Fits (answerOf t a) → Whole (answerOf t a)
 unfolding answerOf
 whole t More f = record { number = lit< tt; taken = f .0; in-state = lit< tt; at = f .1; len = f .2; first = lit< tt; second = lit< tt }
 whole t (Entry s (InPiece at n)) f = record { number = lit< tt; taken = f .0; in-state = lit< tt; at = f .1; len = f .2; first = lit< tt; second = lit< tt }

@@ -6,3 +6,4 @@ pub mod Again
 pub mod Sessions
 pub mod Unique
 pub mod Calls
+pub mod Laws

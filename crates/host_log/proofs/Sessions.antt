@@ -47,13 +47,15 @@ written-stands state r p e full s t = record {
 }
 
 -- a reset state, whatever it was
-pub reset-stands : (state : List ℕ) → length state ≡ size → (isState (resetState state .1) ≡ true) × (readerIn (resetState state .1) ≡ Number Version 0 0)
+reset-is : (state : List ℕ) → length state ≡ size → Stands (resetState state .1) (Number Version 0 0) (placesIn state)
 unfolding resetState
-reset-stands state fits =
+reset-is state fits =
     let full = places-count state fits in
-    let s = written-stands (resetState state .1) (Number Version 0 0) (placesIn state) (simp (eq-eqb (length state) size fits)) full
-    (stands-fresh (placesIn state) Version (omega arith)) (omega arith) in
-    (s .good, s .reader-is)
+    written-stands (resetState state .1) (Number Version 0 0) (placesIn state) (simp (eq-eqb (length state) size fits)) full
+    (stands-fresh (placesIn state) Version (omega arith)) (omega arith)
+
+pub reset-stands : (state : List ℕ) → length state ≡ size → (isState (resetState state .1) ≡ true) × (readerIn (resetState state .1) ≡ Number Version 0 0)
+reset-stands state fits = let s = reset-is state fits in (s .good, s .reader-is)
 
 moved-stands : {before input after : List ℕ} {r : Replied} → isState before ≡ true → secondsOf (readerIn before) ≤ greatest → (m : Moves before input after r)
     → Stands after (m .reader) (placesIn after) × (secondsOf (m .reader) ≤ greatest)
@@ -78,11 +80,9 @@ next-is : {p input after : List ℕ} {st : Reader} {r : Answered} → reader.isS
 next-is good runs = record { refuses = λ e. absurd (let z : _≡_ {A = ℕ} 0 1 = cc in omega arith); runs = λ _. runs }
 
 pub followed : {log state unread : List ℕ} {es : List Entry} → Session log state unread es → Followed log state unread es
-unfolding resetState
 followed (begin state fits) =
     let full = places-count state fits in
-    let s = written-stands (resetState state .1) (Number Version 0 0) (placesIn state) (simp (eq-eqb (length state) size fits)) full
-    (stands-fresh (placesIn state) Version (omega arith)) (omega arith) in
+    let s = reset-is state fits in
     record {
       good = s .good;
       few = rw (s .reader-is) (omega arith);
