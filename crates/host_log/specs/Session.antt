@@ -1,4 +1,4 @@
--- Any run of the log's entries over a state, from a reset on (RULES 16.12).
+-- Any run of calls of `crsf_log_next` over a state, from a reset on (RULES 16.12).
 -- Assumes nothing.
 use Prim.Native.Nat.{ℕ}
 use mathlib.Core.Path.{_≡_}

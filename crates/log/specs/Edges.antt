@@ -53,7 +53,7 @@ edges =
     ∷ edge (1 ∷ 0x80 ∷ 0x80 ∷ 0x80 ∷ 0x80 ∷ 0x10 ∷ ping) [] 6 9
     ∷ edge (1 ∷ 0x80 ∷ 0 ∷ ping) [] 3 9
     ∷ edge (1 ∷ 0x80 ∷ 0x80 ∷ 0x80 ∷ 0x80 ∷ 0x80 ∷ 1 ∷ ping) [] 6 9
-    -- lengths: 3, 64, 65; 127 and 0, in a form that is too long, is 9 before it is 10
+    -- lengths: 3, 64, 65 (4 is in every `ping`); 3 in a form that is too long is 9 before it is 10
     ∷ edge (1 ∷ 0 ∷ 3 ∷ 0xC8 ∷ []) [] 3 10
     ∷ edge (1 ∷ 0 ∷ 64 ∷ 0xC8 ∷ []) [] 4 9
     ∷ edge (1 ∷ 0 ∷ 65 ∷ 0xC8 ∷ []) [] 3 10

@@ -1,5 +1,5 @@
 -- The same, said of a whole string and not byte by byte: `Reads s es st k` is that of the log s the entries es can be read, that the reader then
--- stands at st, and that it has taken k bytes. `agrees` and `only` of proofs/Agrees: this holds of every string for its reading and for nothing else.
+-- stands at st, and that it has taken k bytes. `agrees` and `only` of proofs/Agrees: this holds of every byte string for its reading and for nothing else.
 -- Assumes nothing.
 use mathlib.Core.Path.{_≡_}
 use mathlib.Core.Logic.{_⊎_}

@@ -39,7 +39,7 @@ pub record Leaves (before : List ℕ) (reader : Reader) (piece places : List ℕ
   pub stands : isState places (r .reader) ≡ true
   pub state-is : stateOf places (r .reader) ≡ readFrom (stateOf before reader) piece .state
 
--- the last line is written: what it says is how the log ends there
+-- what is answered once the last line is handed to a write is how the log ends there
 abbrev pub Ends : log.State → Ended → Type 0
 Ends st (Listed ending) = ending ≡ endingOf (finish st)
 Ends st ReadFailed = Unit {0}

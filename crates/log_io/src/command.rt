@@ -62,12 +62,12 @@ fn print_help() -> bool {
     print(
         b"usage: log [FILE]
 
-Lists the entries of a kit log, or of standard input where FILE is - or is not named. Each line is written as soon as it is
-known:
+Lists the entries of a kit log: of FILE, or of standard input where FILE is - or is not named. Each line is written as soon
+as it is known:
   5 frame C8 16 22   an entry: seconds since the one before, and its frame: address, packet type, payload length
   end                the last line: the log is whole
-  refused 9          the last line: a malformed number, a first number other than 1, or an end inside an entry
-  refused 10         the last line: an entry's bytes are not one whole valid frame
+  refused 9          the last line: a malformed number, a first number other than 1, an end inside an entry, or nothing
+  refused 10         the last line: a length that is not 4 to 64, or an entry's bytes are not one whole valid frame
 
   --help, --version
 

@@ -1,5 +1,6 @@
 // The lines of a log, from a file or from standard input, on standard output, through fixed buffers. What a read yields and what becomes of a write is
-// outside any contract; the lines of what was read, handed to a write, are promised, and so is where the reader stands after a piece, and the status.
+// outside any contract. The lines of a piece are those of `log_lines::list_part`, promised there; promised here are where the reader stands after a
+// piece, how the log ends, and the status. That lines are handed to a write is seen in the stored run.
 // What was read is listed and written before more is read. A log that is refused is read no further.
 mod command;
 

@@ -33,7 +33,7 @@ stateOf p Ended = ended
 
 -- ---- Which readers are states: just those that some log leads to (`led-to` of proofs/Reached)
 
--- a number that is begun and can go on: it has no more than five groups
+-- a number that is begun and can go on: at most four of its groups have come
 abbrev pub canGoOn : ℕ → ℕ → Bool
 canGoOn v g = leb g 4 && ltb v (weightOf g)
 
