@@ -48,7 +48,10 @@ returns-5 c =
 
 returns-6 : tie.Need-returns-6
 returns-6 c =
-    let b = c .before .before .before .before .before in let a = b .before .before .before .before .args in c .is-held-fine .ensures ∙ state-held (a .places .now) (a .reader) (omega arith) (b .reader2 .given .1) (c .before .before .before .if2 .left) (c .before .before .if3 .left) (c .before .if4 .left)
+    let b = c .before .before .before .before .before in
+    let a = b .before .before .before .before .args in
+    c .is-held-fine .ensures ∙ state-held (a .places .now) (a .reader) (omega arith) (b .reader2 .given .1) (c .before .before .before .if2 .left)
+    (c .before .before .if3 .left) (c .before .if4 .left)
 
 returns-7 : tie.Need-returns-7
 returns-7 c =

@@ -49,7 +49,10 @@ no-frame-requires-2 c κs = search needs
 
 returns-2 : tie.Need-returns-2
 returns-2 c =
-    let s = c .before .before .before .before .before .before .before .before in let a = s .args in piece-second (a .seconds) (a .size) (a .input .now) (a .i) (s .pre .0) (s .pre .1 .0) (s .pre .1 .1) (address (c .before .before .before .before)) (λ e. c .before .if2 .taken (ap (λ (x : ℕ). x + 2) (c .before .before .wide .ensures .0) ∙ e)) (c .no-frame2 .ensures)
+    let s = c .before .before .before .before .before .before .before .before in
+    let a = s .args in
+    piece-second (a .seconds) (a .size) (a .input .now) (a .i) (s .pre .0) (s .pre .1 .0) (s .pre .1 .1) (address (c .before .before .before .before))
+    (λ e. c .before .if2 .taken (ap (λ (x : ℕ). x + 2) (c .before .before .wide .ensures .0) ∙ e)) (c .no-frame2 .ensures)
 
 add-end : tie.Need-add-end
 add-end c = search needs
@@ -89,11 +92,21 @@ no-frame-requires-3 c κs = search needs
 
 returns-3 : tie.Need-returns-3
 returns-3 c =
-    let s = c .before .before .before .before .before .before .before .before .before .before .before .before .before in let a = s .args in piece-right (a .seconds) (a .size) (a .input .now) (a .i) (s .pre .0) (s .pre .1 .0) (s .pre .1 .1) (address (c .before .before .before .before .before .before .before .before .before)) (ap (λ (x : ℕ). x + 2) (sym (c .before .before .before .before .before .before .before .wide .ensures .0)) ∙ c .before .before .before .before .before .before .if2 .left) (c .before .before .before .checked .ensures) (c .before .enum-told .given .1) (c .number-of .ensures)
+    let s = c .before .before .before .before .before .before .before .before .before .before .before .before .before in
+    let a = s .args in
+    piece-right (a .seconds) (a .size) (a .input .now) (a .i) (s .pre .0) (s .pre .1 .0) (s .pre .1 .1)
+    (address (c .before .before .before .before .before .before .before .before .before))
+    (ap (λ (x : ℕ). x + 2) (sym (c .before .before .before .before .before .before .before .wide .ensures .0)) ∙ c .before .before .before .before .before .before .if2 .left)
+    (c .before .before .before .checked .ensures) (c .before .enum-told .given .1) (c .number-of .ensures)
 
 returns-4 : tie.Need-returns-4
 returns-4 c =
-    let s = c .before .before .before .before .before .before .before .before .before .before .before .before .before in let a = s .args in piece-wrong (a .seconds) (a .size) (a .input .now) (a .i) (s .pre .0) (s .pre .1 .0) (s .pre .1 .1) (address (c .before .before .before .before .before .before .before .before .before)) (ap (λ (x : ℕ). x + 2) (sym (c .before .before .before .before .before .before .before .wide .ensures .0)) ∙ c .before .before .before .before .before .before .if2 .left) (c .before .before .before .checked .ensures) (c .before .enum-told2 .given .1) (c .no-frame3 .ensures)
+    let s = c .before .before .before .before .before .before .before .before .before .before .before .before .before in
+    let a = s .args in
+    piece-wrong (a .seconds) (a .size) (a .input .now) (a .i) (s .pre .0) (s .pre .1 .0) (s .pre .1 .1)
+    (address (c .before .before .before .before .before .before .before .before .before))
+    (ap (λ (x : ℕ). x + 2) (sym (c .before .before .before .before .before .before .before .wide .ensures .0)) ∙ c .before .before .before .before .before .before .if2 .left)
+    (c .before .before .before .checked .ensures) (c .before .enum-told2 .given .1) (c .no-frame3 .ensures)
 
 pub in-piece-spec : {M : Type 1} → statement M
 in-piece-spec =

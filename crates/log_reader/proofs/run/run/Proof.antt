@@ -88,7 +88,11 @@ same-length-3 c =
 
 returns-3 : tie.Need-returns-3 Inv-loop μ-loop
 returns-3 c =
-    going-entry (c .before .before .before .before .before .before .before .before .before .before .before .before .before .before .loop .inv) (omega arith) (sym (c .before .before .before .before .before .before .before .before .before .before .before .before .stopped .ensures) ∙ c .before .before .before .before .before .before .before .before .before .before .before .if1 .left) (late-here (c .before .before .before .before .before .before .before .before .before)) (rw (c .before .before .turn2 .given .1) at (c .before .before .before .before .before .before .feed .ensures)) (c .number-of .ensures)
+    going-entry (c .before .before .before .before .before .before .before .before .before .before .before .before .before .before .loop .inv)
+    (omega arith)
+    (sym (c .before .before .before .before .before .before .before .before .before .before .before .before .stopped .ensures) ∙ c .before .before .before .before .before .before .before .before .before .before .before .if1 .left)
+    (late-here (c .before .before .before .before .before .before .before .before .before))
+    (rw (c .before .before .turn2 .given .1) at (c .before .before .before .before .before .before .feed .ensures)) (c .number-of .ensures)
 
 add-i : tie.Need-add-i Inv-loop μ-loop
 add-i c = search needs
@@ -98,7 +102,10 @@ loop-less c = search needs
 
 loop-again : tie.Need-loop-again Inv-loop μ-loop
 loop-again c =
-    going-on (c .before .before .before .before .before .before .before .before .before .before .before .before .before .loop .inv) (omega arith) (sym (c .before .before .before .before .before .before .before .before .before .before .before .stopped .ensures) ∙ c .before .before .before .before .before .before .before .before .before .before .if1 .left) (late-here (c .before .before .before .before .before .before .before .before)) (rw (c .before .turn .given .1) at (c .before .before .before .before .before .feed .ensures))
+    going-on (c .before .before .before .before .before .before .before .before .before .before .before .before .before .loop .inv) (omega arith)
+    (sym (c .before .before .before .before .before .before .before .before .before .before .before .stopped .ensures) ∙ c .before .before .before .before .before .before .before .before .before .before .if1 .left)
+    (late-here (c .before .before .before .before .before .before .before .before))
+    (rw (c .before .turn .given .1) at (c .before .before .before .before .before .feed .ensures))
 
 answer-at-requires : tie.Need-answer-at-requires Inv-loop μ-loop
 answer-at-requires c κs = search needs
