@@ -12,7 +12,7 @@ use Rattle.records.specs.Edges.{batteryEdges}
 use Rattle.records.specs.declared.battery.Battery.{Battery}
 
 pub batteries-written : map (λ (e : Battery × List ℕ). batteryImage (e .0)) batteryEdges ≡ map (λ (e : Battery × List ℕ). bytes (e .1)) batteryEdges
-unfolding batteryValues bytesOf twosOf
+unfolding batteryValues batteryImage bytesOf twosOf
 batteries-written = refl
 
 pub batteries-read : map (λ (e : Battery × List ℕ). batteryRead (e .1)) batteryEdges ≡ map (λ (e : Battery × List ℕ). decoded (batteryValues (e .0))) batteryEdges

@@ -15,7 +15,7 @@ pub struct Battery {
     // 0.1 V and 0.1 A.
     pub voltage: i16,
     pub current: i16,
-    // mAh; the low 24 bits are written.
+    // mAh. It is written in 24 bits: more than they hold is refused then.
     pub capacity_used: u32,
     // Percent.
     pub remaining: u8,
@@ -34,6 +34,8 @@ impl Battery {
     pub const MIN_PAYLOAD_SIZE: usize = 8;
 
     pub const SIZE_WITH_ID: usize = 9;
+
+    pub const MAX_CAPACITY: u32 = 0xFF_FFFF;
 
     // A record with no id.
     pub fn new(voltage: i16, current: i16, capacity_used: u32, remaining: u8) -> Self
@@ -91,6 +93,9 @@ impl Battery {
     pub fn to_bytes(self, buffer: &mut [u8]) -> Written
         ensures { λ r. ⌜ (writtenRow r, now (buffer .exit)) ≡ writeOf (batteryImage self) (now (buffer .entry)) ⌝ }
     {
+        if self.capacity_used > Self::MAX_CAPACITY {
+            return Written::Refused(Refusal::CapacityRange);
+        }
         let id = self.id;
         if id == 0 {
             if buffer.len() < Self::MIN_PAYLOAD_SIZE {

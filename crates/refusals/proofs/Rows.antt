@@ -9,7 +9,7 @@ use lib.Dec.{eqb}
 use lib.ListN.{getD}
 use Rattle.base.specs.Choice.{if_then_else_}
 use Rattle.refusals.specs.declared.Refusal.{Refusal}
-use Rattle.refusals.specs.declared.Refusal.the-variants.{InvalidSync, InvalidPacketLength, InvalidCrc, InvalidPayloadLength, BufferOverflow, ChannelRange, BadAddress, BadState, InvalidLog, InvalidFrame}
+use Rattle.refusals.specs.declared.Refusal.the-variants.{InvalidSync, InvalidPacketLength, InvalidCrc, InvalidPayloadLength, BufferOverflow, ChannelRange, BadAddress, BadState, InvalidLog, InvalidFrame, CapacityRange}
 use Rattle.refusals.specs.Row.{rowOf, numberOf}
 
 -- the refusal that a row is of
@@ -24,7 +24,8 @@ refusalOf row =
     if eqb (getD row 0 0) 7 then BadAddress else
     if eqb (getD row 0 0) 8 then BadState else
     if eqb (getD row 0 0) 9 then InvalidLog else
-    InvalidFrame
+    if eqb (getD row 0 0) 10 then InvalidFrame else
+    CapacityRange
 
 pub back : (r : Refusal) → refusalOf (rowOf r) ≡ r
 back (InvalidSync byte) = refl
@@ -37,6 +38,7 @@ back BadAddress = refl
 back BadState = refl
 back InvalidLog = refl
 back InvalidFrame = refl
+back CapacityRange = refl
 
 pub one-refusal : {r s : Refusal} → rowOf r ≡ rowOf s → r ≡ s
 one-refusal {r} {s} same = sym (back r) ∙ ap refusalOf same ∙ back s
@@ -53,6 +55,7 @@ number-bounds BadAddress = omega arith
 number-bounds BadState = omega arith
 number-bounds InvalidLog = omega arith
 number-bounds InvalidFrame = omega arith
+number-bounds CapacityRange = omega arith
 
 pub not-zero : (r : Refusal) {values : List ℕ} → rowOf r ≡ 0 ∷ values → ⊥
 not-zero r {values} e =

@@ -4,7 +4,7 @@ use Prim.Native.Nat.{ℕ}
 use mathlib.Core.List.{List, [], _∷_}
 use lib.ListN.{getD}
 use Rattle.refusals.specs.declared.Refusal.{Refusal}
-use Rattle.refusals.specs.declared.Refusal.the-variants.{InvalidSync, InvalidPacketLength, InvalidCrc, InvalidPayloadLength, BufferOverflow, ChannelRange, BadAddress, BadState, InvalidLog, InvalidFrame}
+use Rattle.refusals.specs.declared.Refusal.the-variants.{InvalidSync, InvalidPacketLength, InvalidCrc, InvalidPayloadLength, BufferOverflow, ChannelRange, BadAddress, BadState, InvalidLog, InvalidFrame, CapacityRange}
 use Rattle.refusals.specs.declared.Row.{Row}
 
 -- the number, then what is carried
@@ -19,6 +19,7 @@ rowOf BadAddress = 7 ∷ []
 rowOf BadState = 8 ∷ []
 rowOf InvalidLog = 9 ∷ []
 rowOf InvalidFrame = 10 ∷ []
+rowOf CapacityRange = 11 ∷ []
 
 abbrev pub numberOf : Refusal → ℕ
 numberOf r = getD (rowOf r) 0 0

@@ -18,6 +18,8 @@ pub enum Refusal {
     InvalidLog,
     // Bytes that are not one whole valid frame, or that no frame has so many of.
     InvalidFrame,
+    // A capacity that has no room in a battery's 24 bits.
+    CapacityRange,
 }
 
 // A refusal as numbers: its own, and what it carries; 0 where it carries no more.
@@ -92,6 +94,11 @@ pub fn row_of(refusal: Refusal) -> Row
         },
         Refusal::InvalidFrame => Row {
             number: 10,
+            first: 0,
+            second: 0,
+        },
+        Refusal::CapacityRange => Row {
+            number: 11,
             first: 0,
             second: 0,
         },

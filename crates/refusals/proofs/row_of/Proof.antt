@@ -52,6 +52,9 @@ enum-told-5 c = search needs
 enum-told-6 : tie.Need-enum-told-6
 enum-told-6 c = search needs
 
+enum-told-7 : tie.Need-enum-told-7
+enum-told-7 c = search needs
+
 returns : tie.Need-returns
 returns c = sym (ap says (c .before .refusal .given .1))
 
@@ -82,6 +85,9 @@ returns-9 c = sym (ap says (c .enum-told5 .given .1))
 returns-10 : tie.Need-returns-10
 returns-10 c = sym (ap says (c .enum-told6 .given .1))
 
+returns-11 : tie.Need-returns-11
+returns-11 c = sym (ap says (c .enum-told7 .given .1))
+
 pub row-of-spec : {M : Type 1} → statement M
 row-of-spec =
     tie.close
@@ -100,6 +106,7 @@ row-of-spec =
     enum-told-4
     enum-told-5
     enum-told-6
+    enum-told-7
     returns
     returns-2
     returns-3
@@ -109,4 +116,5 @@ row-of-spec =
     returns-7
     returns-8
     returns-9
-    returns-10)
+    returns-10
+    returns-11)
