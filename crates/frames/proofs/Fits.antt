@@ -1,14 +1,14 @@
 -- Each record's payload fits a frame.
 -- Assumes nothing.
-use mathlib.Core.Path.{_≡_, refl, sym, subst, _∙_}
+use mathlib.Core.Path.{_≡_, refl, sym, subst}
 use mathlib.Core.List.{List}
 use Prim.Native.Nat.{ℕ, _+_, _*_, _≤_, _<_}
 use mathlib.Core.Logic.{⊎-elim}
 use native.Mathlib.Omega.{arith}
-use lib.Dec.{eqb, lit≤}
+use lib.Dec.{lit≤}
 use lib.IntN.{ℤ}
 use lib.ListN.{length}
-use Rattle.base.proofs.Tests.{by-test, below}
+use Rattle.base.proofs.Tests.{below}
 use Rattle.writing.specs.Writing.{Image, bytes, refused}
 use Rattle.channels.specs.Channels.{channelsCount, firstAbove, channelBytes, channelsImage}
 use Rattle.channels.specs.declared.RcChannelsPacked.{RcChannelsPacked}
@@ -23,11 +23,10 @@ use Rattle.series.specs.declared.voltages.Voltages.{Voltages}
 use Rattle.series.proofs.Values.{Sound}
 use Rattle.series.proofs.WriteLaws.{image-size, new-size}
 use Rattle.series.proofs.SoundKinds.{rpm-sound, temp-sound, voltages-sound}
-use Rattle.layout.specs.Layout.{recordBytes}
 use Rattle.records.specs.LinkStatistics.{linkStatisticsImage}
 use Rattle.positions.specs.Gps.{gpsImage}
 use Rattle.positions.specs.GpsExtended.{gpsExtendedImage}
-use Rattle.records.specs.Battery.{batteryFields, batteryValues, batteryImage}
+use Rattle.records.specs.Battery.{batteryImage}
 use Rattle.records.specs.BaroAltitude.{baroAltitudeImage}
 use Rattle.records.specs.declared.link_statistics.LinkStatistics.{LinkStatistics}
 use Rattle.positions.specs.declared.gps.Gps.{Gps}
@@ -92,7 +91,4 @@ pub baro-altitude-small : (x : BaroAltitude) → Small (baroAltitudeImage x)
 baro-altitude-small x = omega (arith, baro-altitude-long x)
 
 pub battery-small : (x : Battery) → Small (batteryImage x)
-battery-small x =
-    by-test (eqb (x .id) 0)
-    (λ none. let size : length (recordBytes (batteryFields (x .id)) (batteryValues x)) ≡ 8 = battery-long x ∙ simp none in omega arith)
-    (λ some. let size : length (recordBytes (batteryFields (x .id)) (batteryValues x)) ≡ 9 = battery-long x ∙ simp some in omega arith)
+battery-small x = small-if (batteryImage x) (λ payload e. omega (arith, battery-long x payload e))

@@ -8,13 +8,16 @@ use native.Mathlib.Omega.{arith}
 use lib.ListN.{length}
 use Rattle.refusals.specs.Row.{rowOf}
 use Rattle.refusals.specs.declared.Refusal.{Refusal}
-use Rattle.refusals.specs.declared.Refusal.the-variants.{InvalidPayloadLength, BufferOverflow, BadAddress}
+use Rattle.refusals.specs.declared.Refusal.the-variants.{InvalidPayloadLength, BufferOverflow, BadAddress, CapacityRange}
 use Rattle.writing.specs.Writing.{Image, bytes, refused, writtenRow, writeOf}
 use Rattle.writing.proofs.Writing.{refuses}
 use Rattle.packets.specs.Listed.{listed}
 use Rattle.reading.specs.Answer.{Frame}
 use Rattle.reading.specs.Reading.{limit, reading, _⊕_}
 use Rattle.reading.specs.Frame.{frame, Valid}
+use Rattle.records.specs.Battery.{tooLarge, batteryImage}
+use Rattle.records.specs.declared.battery.Battery.{Battery}
+use Rattle.records.proofs.BatteryLaws.{image-refused}
 use Rattle.series.specs.Series.{Kind, seriesImage}
 use Rattle.series.proofs.WriteLaws.{image-none}
 use Rattle.frames.specs.Frames.{overhead, mostPayload, framed, framedBody}
@@ -33,7 +36,7 @@ module _ (dest kind : ℕ) (payload : List ℕ) (address : listed dest ≡ true)
       ap (λ (s : List ℕ). reading limit (s ++ more)) (sym (append-nil (frame dest (kind ∷ payload))))
       ∙ frames-read limit (frame dest (kind ∷ payload) ∷ []) more (written-valid, tt)
 
--- ---- THE ORDER OF REFUSALS: the address (7), then the record's own (4, 6), then the room (5); the buffer stays as it was
+-- ---- THE ORDER OF REFUSALS: the address (7), then the record's own (4, 6, 11), then the room (5); the buffer stays as it was
 
 module _ (dest kind : ℕ) (b : List ℕ) where
   pub address-first : (image : Image) → listed dest ≡ false → writeOf (framed dest kind image) b ≡ (rowOf BadAddress, b)
@@ -49,6 +52,12 @@ module _ (dest kind : ℕ) (b : List ℕ) where
       → writeOf (framed dest kind (seriesImage k id vs n)) b ≡ (rowOf InvalidPayloadLength, b)
   none-second k id vs n none address =
       ap (λ (image : Image). writeOf (framed dest kind image) b) (image-none k id vs n none) ∙ record-second InvalidPayloadLength address
+
+  -- .. and a battery whose capacity is too large with 11
+  pub capacity-second : (x : Battery) → tooLarge ≤ x .«capacity_used» → listed dest ≡ true
+      → writeOf (framed dest kind (batteryImage x)) b ≡ (rowOf CapacityRange, b)
+  capacity-second x large address =
+      ap (λ (image : Image). writeOf (framed dest kind image) b) (image-refused x large) ∙ record-second CapacityRange address
 
   pub room-last : (payload : List ℕ) → listed dest ≡ true → length b < length payload + overhead
       → writeOf (framed dest kind (bytes payload)) b ≡ (rowOf BufferOverflow, b)

@@ -18,8 +18,6 @@ use positions::gps_extended::GpsExtended;
 use positions::gps_extended::GpsExtendedRead;
 use records::baro_altitude::BaroAltitude;
 use records::baro_altitude::BaroAltitudeRead;
-use records::battery::Battery;
-use records::battery::BatteryRead;
 use records::link_statistics::LinkStatistics;
 use records::link_statistics::LinkStatisticsRead;
 ghost use mathlib.Core.Path.{_≡_};
@@ -72,11 +70,7 @@ pub extern "C" fn crsf_read_gps_extended(payload: &[u8], out: &mut [i32]) -> u64
 pub extern "C" fn crsf_read_battery(payload: &[u8], out: &mut [i32]) -> u64
     ensures { λ r. ⌜ (r, now (out .exit)) ≡ gives (batteryRead (now (payload .entry))) (now (out .entry)) ⌝ }
 {
-    let read = Battery::from_bytes(payload);
-    match read {
-        BatteryRead::Record(x) => give_battery(x, out),
-        BatteryRead::Refused(refusal) => refuse(refusal),
-    }
+    give_battery(payload, out)
 }
 
 #[no_mangle]

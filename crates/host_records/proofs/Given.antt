@@ -2,28 +2,19 @@
 -- Assumes nothing.
 use mathlib.Core.Path.{_≡_, refl, sym, ap, _∙_}
 use mathlib.Core.List.{List, [], _∷_, _++_}
-use Prim.Native.Nat.{ℕ, _^_, _≤_, _<_}
+use Prim.Native.Nat.{ℕ, _≤_, _<_}
 use native.Mathlib.Nat.{mod-eq-of-lt}
 use native.Mathlib.Omega.{arith}
-use borrow.Author.Tests.{le-leb, lt-leb, leb-true}
-use lib.Dec.{leb, lit<}
+use borrow.Author.Tests.{le-leb, lt-leb}
+use lib.Dec.{lit<}
 use lib.IntN.{ℤ}
 use lib.ListN.{length, take, drop}
-use Rattle.base.specs.Bytes.{Bytes}
-use Rattle.base.specs.Parts.{part}
-use Rattle.base.proofs.Parts.{length-part, bytes-part}
-use Rattle.base.proofs.Tests.{by-test}
 use Rattle.refusals.specs.Row.{rowOf}
 use Rattle.refusals.specs.declared.Refusal.{Refusal}
 use Rattle.refusals.specs.declared.Refusal.the-variants.{BufferOverflow}
-use Rattle.numbers.specs.BigEndian.{beOf}
-use Rattle.numbers.proofs.BigEndian.{beOf-lt}
 use Rattle.layout.specs.Decoded.{Decoded, decoded, refused, readRow}
 use Rattle.layout.specs.declared.ReadAnswer.{ReadAnswer}
 use Rattle.layout.specs.declared.ReadAnswer.the-variants.{Record, Refused}
-use Rattle.layout.proofs.Known.{natural, numbersOf}
-use Rattle.records.specs.Battery.{batteryValues, batteryRead}
-use Rattle.records.specs.declared.battery.Battery.{Battery}
 use Rattle.channels.specs.Channels.{channelsRead}
 use Rattle.channels.specs.declared.RcChannelsPacked.{RcChannelsPacked}
 use Rattle.series.specs.Series.{Kind, Counted, seriesRead, countedRead}
@@ -36,7 +27,7 @@ use Rattle.host_answer.specs.Answer.{packed, inBytes, answerRefusal}
 use Rattle.host_answer.specs.Seen.{unpacked}
 use Rattle.host_answer.proofs.Rows.{not-success, row-refusal}
 use Rattle.host_answer.proofs.Packing.{unpack}
-use Rattle.host_records.specs.Read.{given, givenAll, givenShort, gives, keptBattery, byRow, givesChannels, answerSeries, givesSeries}
+use Rattle.host_records.specs.Read.{given, givenAll, givenShort, gives, byRow, givesChannels, answerSeries, givesSeries}
 
 module _ {A : Type 0} (s d : List A) (answer : HostAnswer) (n : ℕ) (size : length s ≡ n) where
   pub given-all : n ≤ length d → (packed answer, s ++ drop n d) ≡ given answer s d
@@ -125,25 +116,3 @@ module _ {M : Type 0} (decodedBy : M → Decoded) (out : List ℤ) {m : M} {read
   pub fixed-refused : {x : M} {n : ℕ} (r : Refusal) → m ≡ x → decodedBy x ≡ refused (rowOf r) → n ≡ packed (answerRefusal r) → (n, out) ≡ gives read out
   unfolding gives
   fixed-refused r known is refuses = rw (refuses, ← reads, known, is, row-refusal r)
-
--- the capacity that a battery record reads as has 24 bits
-capacity-bound : (payload : List ℕ) → Bytes payload → 7 ≤ length payload → beOf (part payload 4 3) < 2 ^ 24
-capacity-bound payload b h =
-    rw (length-part payload 4 3 (omega arith)) at (beOf-lt (part payload 4 3) (bytes-part payload 4 3 b))
-
-third-fits : (payload : List ℕ) → Bytes payload → natural 2 (numbersOf (batteryRead payload)) < 2 ^ 24
-unfolding batteryRead
-third-fits payload b =
-    by-test (leb 9 (length payload))
-    (λ t. simp t (capacity-bound payload b (omega (arith, leb-true 9 (length payload) t))))
-    (λ t.
-    by-test (leb 8 (length payload))
-    (λ u. simp (t, u) (capacity-bound payload b (omega (arith, leb-true 8 (length payload) u))))
-    (λ u. simp (t, u) (lit< tt)))
-
-capacity-fits : (payload : List ℕ) (x : Battery) → Bytes payload → batteryRead payload ≡ decoded (batteryValues x) → x .«capacity_used» < 2 ^ 24
-unfolding batteryValues
-capacity-fits payload x b e = rw (sym (ap (λ (a : Decoded). natural 2 (numbersOf a)) e)) (third-fits payload b)
-
-pub battery-kept : (payload : List ℕ) (x : Battery) → Bytes payload → batteryRead payload ≡ decoded (batteryValues x) → keptBattery x ≡ x
-battery-kept payload x b e = rw (mod-eq-of-lt (capacity-fits payload x b e))

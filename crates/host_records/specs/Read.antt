@@ -1,6 +1,6 @@
 -- Readers of payloads (RULES 14): a record's numbers go to the front of a lent slice, and the answer says how many.
 -- Assumes nothing.
-use Prim.Native.Nat.{ℕ, _^_, _%_}
+use Prim.Native.Nat.{ℕ}
 use mathlib.Core.List.{List, _++_}
 use lib.Dec.{eqb, leb}
 use lib.IntN.{ℤ}
@@ -8,7 +8,6 @@ use lib.ListN.{length, getD, drop}
 use Rattle.base.specs.Choice.{if_then_else_}
 use Rattle.refusals.specs.declared.Refusal.the-variants.{BufferOverflow}
 use Rattle.layout.specs.Decoded.{Decoded, decoded, refused}
-use Rattle.records.specs.declared.battery.Battery.{Battery}
 use Rattle.channels.specs.declared.RcChannelsPacked.{RcChannelsPacked}
 use Rattle.series.specs.declared.Series.{Series}
 use Rattle.series.specs.declared.Series.the-variants.{Values, Refused}
@@ -32,16 +31,6 @@ givenShort vs out = given (inBytes (answerCount (length vs))) vs out
 unfoldable pub gives : Decoded → List ℤ → ℕ × List ℤ
 gives (decoded vs) out = givenAll vs out
 gives (refused row) out = (packed (answerRow row), out)
-
--- a battery with the low 24 bits of its capacity, as writing keeps it
-abbrev pub keptBattery : Battery → Battery
-keptBattery x = record {
-  voltage = x .voltage;
-  current = x .current;
-  «capacity_used» = x .«capacity_used» % 2 ^ 24;
-  remaining = x .remaining;
-  id = x .id;
-}
 
 -- a record that stands beside its answer, by the answer's row
 abbrev pub byRow : {A : Type 0} → List ℕ → ℕ × List A → List A → ℕ × List A

@@ -11,6 +11,7 @@ use positions::gps::Gps;
 use positions::gps_extended::GpsExtended;
 use records::baro_altitude::BaroAltitude;
 use records::battery::Battery;
+use records::battery::BatteryRead;
 use records::link_statistics::LinkStatistics;
 use refusals::Refusal;
 use series::Series;
@@ -18,17 +19,18 @@ use series::rpm::Rpm;
 use series::temp::Temp;
 use series::voltages::Voltages;
 ghost use mathlib.Core.Path.{_≡_};
+ghost use Prim.Native.Nat.{_<_};
 ghost use Rattle.positions.specs.Gps.{gpsValues};
 ghost use Rattle.positions.specs.GpsExtended.{gpsExtendedValues};
 ghost use Rattle.records.specs.LinkStatistics.{linkStatisticsValues};
-ghost use Rattle.records.specs.Battery.{batteryValues};
+ghost use Rattle.records.specs.Battery.{batteryValues, batteryRead, tooLarge};
 ghost use Rattle.records.specs.BaroAltitude.{baroAltitudeValues};
 ghost use Rattle.series.specs.Series.{seriesRead};
 ghost use Rattle.series.specs.Rpm.{rpmKind};
 ghost use Rattle.series.specs.Temp.{tempKind};
 ghost use Rattle.series.specs.Voltages.{voltagesKind};
 ghost use Rattle.host_answer.specs.Answer.{packed, inBytes};
-ghost use Rattle.host_records.specs.Read.{givenShort, givenAll, keptBattery, answerSeries, givesSeries};
+ghost use Rattle.host_records.specs.Read.{givenShort, givenAll, gives, answerSeries, givesSeries};
 
 // All of the values, and how many they are.
 fn give_all(values: &[i32], out: &mut [i32]) -> u64
@@ -113,22 +115,30 @@ pub fn give_gps_extended(x: GpsExtended, out: &mut [i32]) -> u64
 }
 
 fn battery_values(x: Battery) -> [i32; 5]
-    ensures { λ r. ⌜ r ≡ batteryValues (keptBattery x) ⌝ }
+    requires { ⌜ x .«capacity_used» < tooLarge ⌝ }
+    ensures { λ r. ⌜ r ≡ batteryValues x ⌝ }
 {
     [
         x.voltage as i32,
         x.current as i32,
-        (x.capacity_used % 0x100_0000) as i32,
+        x.capacity_used as i32,
         x.remaining as i32,
         x.id as i32,
     ]
 }
 
-pub fn give_battery(x: Battery, out: &mut [i32]) -> u64
-    ensures { λ r. ⌜ (r, now (out .exit)) ≡ givenAll (batteryValues (keptBattery x)) (now (out .entry)) ⌝ }
+// Of a payload: a capacity that was read has room in an i32, while one of any record may not.
+pub fn give_battery(payload: &[u8], out: &mut [i32]) -> u64
+    ensures { λ r. ⌜ (r, now (out .exit)) ≡ gives (batteryRead (now (payload .entry))) (now (out .entry)) ⌝ }
 {
-    let values = battery_values(x);
-    give_all(&values, out)
+    let read = Battery::from_bytes(payload);
+    match read {
+        BatteryRead::Record(x) => {
+            let values = battery_values(x);
+            give_all(&values, out)
+        }
+        BatteryRead::Refused(refusal) => refuse(refusal),
+    }
 }
 
 fn baro_altitude_values(x: BaroAltitude) -> [i32; 2]

@@ -1,5 +1,5 @@
 -- `host_records::battery_values` meets its contract. Assumes nothing.
-use Prim.Native.Nat.{_^_, _%_, _<_}
+use Prim.Native.Nat.{_<_}
 use lib.Dec.{lit≤}
 use mir.Syntax.{w16, w32}
 use mir.Val.{SFits}
@@ -13,7 +13,7 @@ use Rattle.host_records.proofs.battery_values.Tie as tie
 fits : (c : tie.Start) → (let x = c .args .x in
     SFits w16 (x .voltage)
     × SFits w16 (x .current)
-    × (x .«capacity_used» % 2 ^ 24 < 2147483648)
+    × (x .«capacity_used» < 2147483648)
     × (x .remaining < 2147483648)
     × (x .id < 2147483648))
 fits c = search needs
@@ -24,14 +24,14 @@ cast-t2 c = signed-fits w16 _ (lit≤ tt) (fits (c .before .before) .0)
 cast-t3 : tie.Need-cast-t3
 cast-t3 c = signed-fits w16 _ (lit≤ tt) (fits (c .before .before .before .before) .1)
 
+cast-t4 : tie.Need-cast-t4
+cast-t4 c = search needs
+
 cast-t5 : tie.Need-cast-t5
 cast-t5 c = search needs
 
 cast-t6 : tie.Need-cast-t6
 cast-t6 c = search needs
-
-cast-t7 : tie.Need-cast-t7
-cast-t7 c = search needs
 
 returns : tie.Need-returns
 unfolding batteryValues
@@ -42,10 +42,10 @@ returns c =
     rw (
       signed-same w16 (x .voltage) (lit≤ tt) (f .0),
       signed-same w16 (x .current) (lit≤ tt) (f .1),
-      toZ-pos w32 (x .«capacity_used» % 2 ^ 24) (f .2),
+      toZ-pos w32 (x .«capacity_used») (f .2),
       toZ-pos w32 (x .remaining) (f .3),
       toZ-pos w32 (x .id) (f .4),
     )
 
 pub battery-values-spec : {M : Type 1} → statement M
-battery-values-spec = tie.close (tie.spec cast-t2 cast-t3 cast-t5 cast-t6 cast-t7 returns)
+battery-values-spec = tie.close (tie.spec cast-t2 cast-t3 cast-t4 cast-t5 cast-t6 returns)
