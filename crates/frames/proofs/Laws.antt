@@ -1,11 +1,12 @@
 -- What is written is a valid frame, and its reading is that frame; and the order in which a writer refuses.
 -- Assumes nothing.
-use mathlib.Core.Path.{_≡_, refl, sym, ap, _∙_}
+use mathlib.Core.Path.{_≡_, refl, sym, ap, subst, _∙_}
 use mathlib.Core.Bool.{true, false}
 use mathlib.Core.List.{List, [], _∷_, _++_, append-nil}
 use Prim.Native.Nat.{ℕ, _+_, _≤_, _<_}
 use native.Mathlib.Omega.{arith}
 use lib.ListN.{length}
+use Rattle.base.proofs.Tests.{by-test}
 use Rattle.refusals.specs.Row.{rowOf}
 use Rattle.refusals.specs.declared.Refusal.{Refusal}
 use Rattle.refusals.specs.declared.Refusal.the-variants.{InvalidPayloadLength, BufferOverflow, BadAddress, CapacityRange}
@@ -35,6 +36,32 @@ module _ (dest kind : ℕ) (payload : List ℕ) (address : listed dest ≡ true)
   written-reads more =
       ap (λ (s : List ℕ). reading limit (s ++ more)) (sym (append-nil (frame dest (kind ∷ payload))))
       ∙ frames-read limit (frame dest (kind ∷ payload) ∷ []) more (written-valid, tt)
+
+-- whatever is written is the frame of a payload, to an address
+pub record FrameOf (dest kind : ℕ) (image : Image) (f : List ℕ) : Type 0 where
+  pub payload : List ℕ
+  pub is : image ≡ bytes payload
+  pub whole : f ≡ frame dest (kind ∷ payload)
+  pub address : listed dest ≡ true
+
+abbrev bytesIn : Image → List ℕ
+bytesIn (bytes bs) = bs
+bytesIn (refused r) = []
+
+abbrev IsBytes : Image → Type 0
+IsBytes (bytes bs) = Unit {0}
+IsBytes (refused r) = ⊥
+
+pub frame-of : (dest kind : ℕ) (image : Image) (f : List ℕ) → framed dest kind image ≡ bytes f → FrameOf dest kind image f
+unfolding framed framedBody
+frame-of dest kind (bytes p) f e =
+    by-test (listed dest)
+    (λ t. record { payload = p; is = refl; whole = sym (ap bytesIn (simp t at e)); address = t })
+    (λ t. absurd (subst IsBytes (sym (simp t at e)) tt))
+frame-of dest kind (refused r) f e =
+    by-test (listed dest)
+    (λ t. absurd (subst IsBytes (sym (simp t at e)) tt))
+    (λ t. absurd (subst IsBytes (sym (simp t at e)) tt))
 
 -- ---- THE ORDER OF REFUSALS: the address (7), then the record's own (4, 6, 11), then the room (5); the buffer stays as it was
 

@@ -2,7 +2,7 @@
 -- Assumes nothing.
 use mathlib.Core.Path.{_≡_, refl, sym, ap, _∙_}
 use mathlib.Core.Bool.{true, false}
-use mathlib.Core.List.{List, []}
+use mathlib.Core.List.{List, [], _∷_}
 use mathlib.Core.Logic.{⊎-elim}
 use Prim.Native.Nat.{ℕ, _+_, _%_, _≤_, _<_}
 use native.Mathlib.Nat.{mod-eq-of-lt}
@@ -14,10 +14,12 @@ use Rattle.base.proofs.Tests.{below}
 use Rattle.packets.specs.Listed.{listed}
 use Rattle.refusals.specs.Row.{rowOf}
 use Rattle.refusals.specs.declared.Refusal.{Refusal}
-use Rattle.refusals.specs.declared.Refusal.the-variants.{InvalidPayloadLength, BufferOverflow, ChannelRange, BadAddress}
+use Rattle.refusals.specs.declared.Refusal.the-variants.{InvalidPayloadLength, BufferOverflow, ChannelRange, BadAddress, CapacityRange}
 use Rattle.writing.specs.Writing.{Image, writeOf}
 use Rattle.writing.specs.Writing as writing
 use Rattle.layout.specs.Decoded.{Decoded, refused}
+use Rattle.records.specs.Battery.{tooLarge, batteryImage}
+use Rattle.records.specs.declared.battery.Battery.{Battery}
 use Rattle.channels.specs.Channels.{firstAbove, channelsImage}
 use Rattle.channels.specs.declared.RcChannelsPacked.{RcChannelsPacked}
 use Rattle.channels.proofs.Laws.{image-refused, image-bytes}
@@ -28,7 +30,7 @@ use Rattle.series.proofs.ReadLaws.{read-too-short}
 use Rattle.series.proofs.WriteLaws.{new-image}
 use Rattle.stream.specs.declared.step.Reply.the-variants.{Refused}
 use Rattle.frames.specs.Frames.{overhead, framed}
-use Rattle.frames.proofs.Laws.{address-first, record-second, none-second, room-last}
+use Rattle.frames.proofs.Laws.{address-first, record-second, none-second, capacity-second, room-last}
 use Rattle.host_state.specs.Saving.{heldRowOf, resetState, stateImage, restoreState}
 use Rattle.host_answer.specs.Answer.{packed, answerRow, answers}
 use Rattle.host_answer.specs.Reply.{answerReply, Calls}
@@ -115,6 +117,11 @@ module _ (dest kind : ℕ) (buffer : List ℕ) where
   refuses-none k id address =
       as-written (newImage k id []) InvalidPayloadLength
       (ap (λ (image : Image). writeOf (framed dest kind image) buffer) (new-image k id []) ∙ none-second dest kind buffer k id [] 0 (lit< tt) address)
+
+  -- a battery whose capacity is too large, in any buffer: of the eight bytes the first is 11, and the others are 0
+  pub refuses-capacity : (x : Battery) → tooLarge ≤ x .«capacity_used» → listed dest ≡ true
+      → (unpacked 8 (writes dest kind (batteryImage x) buffer .0) ≡ 11 ∷ 0 ∷ 0 ∷ 0 ∷ 0 ∷ 0 ∷ 0 ∷ 0 ∷ []) × (writes dest kind (batteryImage x) buffer .1 ≡ buffer)
+  refuses-capacity x large address = as-written (batteryImage x) CapacityRange (capacity-second dest kind buffer x large address)
 
   pub refuses-room : (payload : List ℕ) → listed dest ≡ true → length buffer < length payload + overhead → Refuses (writing.bytes payload) BufferOverflow
   refuses-room payload address less = as-written (writing.bytes payload) BufferOverflow (room-last dest kind buffer payload address less)

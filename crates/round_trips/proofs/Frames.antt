@@ -31,15 +31,20 @@ nothing : reading limit [] ≡ record { answers = []; tail = [] }
 unfolding reading readingPast
 nothing = refl
 
+-- a frame by itself is read as that frame
+pub one-frame : (dest kind : ℕ) (payload : List ℕ) → listed dest ≡ true → length payload ≤ mostPayload
+    → reading limit (frame dest (kind ∷ payload)) ≡ record { answers = Frame (frame dest (kind ∷ payload)) ∷ []; tail = [] }
+one-frame dest kind payload address few =
+    let f : List ℕ = frame dest (kind ∷ payload) in
+    ap (reading limit) (sym (append-nil f)) ∙ written-reads dest kind payload address few [] ∙ ap (λ (r : Reading). (Frame f ∷ []) ⊕ r) nothing
+
 module _ {A : Type 0} (dest kind : ℕ) (address : listed dest ≡ true) (image : Image) (payload : List ℕ) (is : image ≡ bytes payload)
     (few : length payload ≤ mostPayload) (read : List ℕ → A) (record-is : A) (back : read payload ≡ record-is) where
   pub comes-back : ComesBack (framed dest kind image) read record-is
   unfolding framed framedBody
-  comes-back =
-      let f : List ℕ = frame dest (kind ∷ payload) in
-      record {
-        frame = f;
-        written = rw (address, is);
-        read-as = ap (reading limit) (sym (append-nil f)) ∙ written-reads dest kind payload address few [] ∙ ap (λ (r : Reading). (Frame f ∷ []) ⊕ r) nothing;
-        fields = ap read (payload-framed dest kind payload) ∙ back;
-      }
+  comes-back = record {
+    frame = frame dest (kind ∷ payload);
+    written = rw (address, is);
+    read-as = one-frame dest kind payload address few;
+    fields = ap read (payload-framed dest kind payload) ∙ back;
+  }

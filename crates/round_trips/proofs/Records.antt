@@ -2,16 +2,21 @@
 -- Assumes nothing.
 use mathlib.Core.Path.{_≡_, refl, sym, ap, _∙_}
 use mathlib.Core.Bool.{true}
-use mathlib.Core.List.{List, [], append-nil}
+use mathlib.Core.List.{List, [], _∷_, append-nil}
 use Prim.Native.Nat.{ℕ, _+_, _*_, _^_, _≤_, _<_}
 use native.Mathlib.Omega.{arith}
-use lib.Dec.{eqb, lit≤}
+use lib.Dec.{lit≤, lit<}
 use lib.IntN.{ℤ, pos}
 use lib.ListN.{length, getD}
-use Rattle.base.proofs.Tests.{by-test}
+use mir.Syntax.{w16}
+use mir.Val.{SFits}
 use Rattle.numbers.specs.TwosComplement.{InRange}
 use Rattle.packets.specs.Listed.{listed}
-use Rattle.layout.specs.Layout.{sizeOf, HoldsAll, recordBytes}
+use Rattle.reading.specs.Answer.{Frame}
+use Rattle.reading.specs.Reading.{limit, reading}
+use Rattle.writing.specs.Writing.{bytes}
+use Rattle.view.specs.View.{payloadOf}
+use Rattle.layout.specs.Layout.{HoldsAll, recordBytes}
 use Rattle.layout.specs.Decoded.{readRow}
 use Rattle.layout.specs.declared.ReadAnswer.the-variants as answer
 use Rattle.positions.specs.Gps.{gpsType, gpsLayout, gpsValues, gpsDecoded, gpsRead, gpsImage}
@@ -22,7 +27,7 @@ use Rattle.positions.specs.declared.gps_extended.GpsExtended.{GpsExtended}
 use Rattle.positions.specs.declared.gps_extended.GpsExtendedRead.the-variants as extended
 use Rattle.positions.proofs.Laws.{gps-long, gps-read-written, gps-extended-long, gps-extended-read-written}
 use Rattle.records.specs.LinkStatistics.{linkStatisticsType, linkStatisticsLayout, linkStatisticsValues, linkStatisticsDecoded, linkStatisticsRead, linkStatisticsImage}
-use Rattle.records.specs.Battery.{batteryType, batteryLayout, batteryFields, batteryValues, batteryDecoded, batteryRead, batteryImage}
+use Rattle.records.specs.Battery.{batteryType, batteryValues, batteryDecoded, batteryRead, batteryImage}
 use Rattle.records.specs.BaroAltitude.{baroAltitudeType, baroAltitudeLayout, baroAltitudeValues, baroAltitudeDecoded, baroAltitudeRead, baroAltitudeImage}
 use Rattle.records.specs.declared.link_statistics.LinkStatistics.{LinkStatistics}
 use Rattle.records.specs.declared.link_statistics.LinkStatisticsRead.the-variants as link
@@ -31,7 +36,7 @@ use Rattle.records.specs.declared.battery.BatteryRead.the-variants as battery
 use Rattle.records.specs.declared.baro_altitude.BaroAltitude.{BaroAltitude}
 use Rattle.records.specs.declared.baro_altitude.BaroAltitudeRead.the-variants as baro
 use Rattle.records.proofs.Laws.{link-statistics-long, link-statistics-read-written, baro-altitude-long, baro-altitude-read-written}
-use Rattle.records.proofs.BatteryLaws.{battery-long, battery-read-written}
+use Rattle.records.proofs.BatteryLaws.{IsBattery, battery-long, battery-read-written}
 use Rattle.series.specs.Series.{Kind, Counted, countedMade, countedRead, seriesBytes, countedImage, newImage}
 use Rattle.series.specs.Rpm.{rpmType, rpmKind, rpmOf, rpmCounted, rpmMade, rpmRead, rpmImage}
 use Rattle.series.specs.Temp.{tempType, tempKind, tempOf, tempCounted, tempMade, tempRead, tempImage}
@@ -42,17 +47,15 @@ use Rattle.series.specs.declared.voltages.Voltages.{Voltages}
 use Rattle.series.proofs.Values.{Sound}
 use Rattle.series.proofs.WriteLaws.{image-bytes, image-size, new-image, new-size}
 use Rattle.series.proofs.SeriesLaws.{Whole, counted-read-written, made-read-written}
-use Rattle.series.proofs.SoundKinds.{rpm-sound, temp-sound, voltages-sound}
+use Rattle.series.proofs.SoundKinds.{i16-fits, rpm-sound, temp-sound, voltages-sound}
 use Rattle.channels.specs.Channels.{channelsType, channelBytes, channelsRead, channelsImage}
 use Rattle.channels.specs.Digits.{Below}
 use Rattle.channels.specs.declared.RcChannelsPacked.{RcChannelsPacked}
 use Rattle.channels.proofs.Laws.{channels-image, channels-length, channels-read-written}
 use Rattle.frames.specs.Frames.{framed, mostPayload}
+use Rattle.frames.proofs.Laws.{FrameOf, frame-of}
 use Rattle.round_trips.specs.ComesBack.{ComesBack}
-use Rattle.round_trips.proofs.Frames.{comes-back}
-
-few-fields : (id : ℕ) → sizeOf (batteryFields id) ≤ 9
-few-fields id = by-test (eqb id 0) (λ none. rw none (lit≤ tt)) (λ some. rw some (lit≤ tt))
+use Rattle.round_trips.proofs.Frames.{payload-framed, one-frame, comes-back}
 
 module _ (dest : ℕ) (address : listed dest ≡ true) where
   pub gps-comes-back : (x : Gps) → HoldsAll gpsLayout (gpsValues x) → ComesBack (framed dest gpsType (gpsImage x)) gpsRead (gpsDecoded (gps.Record x))
@@ -82,13 +85,12 @@ module _ (dest : ℕ) (address : listed dest ≡ true) where
       comes-back dest baroAltitudeType address (baroAltitudeImage x) p refl (omega (arith, baro-altitude-long x)) baroAltitudeRead (baroAltitudeDecoded (baro.Record x))
       (ap baroAltitudeRead (sym (append-nil p)) ∙ sym (baro-altitude-read-written x [] h))
 
-  -- its fields are in range where the capacity is below 2^24
-  pub battery-comes-back : (x : Battery) → HoldsAll batteryLayout (batteryValues x)
+  -- whatever there is to write of a battery
+  pub battery-comes-back : (x : Battery) (payload : List ℕ) → IsBattery x → batteryImage x ≡ bytes payload
       → ComesBack (framed dest batteryType (batteryImage x)) batteryRead (batteryDecoded (battery.Record x))
-  battery-comes-back x h =
-      let p : List ℕ = recordBytes (batteryFields (x .id)) (batteryValues x) in
-      comes-back dest batteryType address (batteryImage x) p refl (omega (arith, battery-long x, few-fields (x .id))) batteryRead (batteryDecoded (battery.Record x))
-      (sym (battery-read-written x h))
+  battery-comes-back x payload h e =
+      comes-back dest batteryType address (batteryImage x) payload e (omega (arith, battery-long x payload e)) batteryRead (batteryDecoded (battery.Record x))
+      (battery-read-written x payload h e)
 
   -- a series comes back as `of` makes a record of it
   module _ {A R : Type 0} (k : Kind A) {Fits : A → Type 0} (sound : Sound k Fits) (fits : 1 + k .most * k .width ≤ mostPayload) where
@@ -142,3 +144,31 @@ module _ (dest : ℕ) (address : listed dest ≡ true) where
       let p : List ℕ = channelBytes (x .0) in
       comes-back dest channelsType address (channelsImage x) p e (omega (arith, channels-length x p e)) channelsRead (readRow answer.Record, x)
       (ap channelsRead (sym (append-nil p)) ∙ channels-read-written x p [] n e)
+
+-- ---- WHATEVER WAS WRITTEN of a battery is read back, whatever the capacity and the address
+
+-- the numbers of a struct of two i16, a u32 and two u8 are such
+pub is-battery : (x : Battery) → SFits w16 (x .voltage) → SFits w16 (x .current) → x .«capacity_used» < 2 ^ 32 → x .remaining < 2 ^ 8 → x .id < 2 ^ 8 → IsBattery x
+unfolding batteryValues
+is-battery x voltage current capacity remaining id = (
+  (lit< tt, i16-fits (x .voltage) voltage),
+  (
+    (lit< tt, i16-fits (x .current) current),
+    ((refl, capacity), ((refl, remaining), ((refl, id), tt))),
+  ),
+)
+
+module _ (dest : ℕ) (x : Battery) (f : List ℕ) (typed : IsBattery x) (written : framed dest batteryType (batteryImage x) ≡ bytes f) where
+  of-frame : FrameOf dest batteryType (batteryImage x) f
+  of-frame = frame-of dest batteryType (batteryImage x) f written
+
+  pub battery-frame-read : reading limit f ≡ record { answers = Frame f ∷ []; tail = [] }
+  battery-frame-read =
+      rw (of-frame .whole)
+      (one-frame dest batteryType (of-frame .payload) (of-frame .address) (omega (arith, battery-long x (of-frame .payload) (of-frame .is))))
+
+  pub battery-read-back : batteryRead (payloadOf f) ≡ batteryDecoded (battery.Record x)
+  battery-read-back =
+      ap (λ (g : List ℕ). batteryRead (payloadOf g)) (of-frame .whole)
+      ∙ ap batteryRead (payload-framed dest batteryType (of-frame .payload))
+      ∙ battery-read-written x (of-frame .payload) typed (of-frame .is)
