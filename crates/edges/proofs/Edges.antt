@@ -10,11 +10,11 @@ use Rattle.reading.specs.Reading.{reading, readingPast, first, goodLength, pass
 use Rattle.channels.specs.Digits.{number, digits}
 use Rattle.channels.specs.Channels.{firstAbove, channelsImage}
 use Rattle.altitude.specs.Altitude.{packOf}
-use Rattle.records.specs.Battery.{batteryValues}
+use Rattle.records.specs.Battery.{batteryValues, batteryImage}
 use Rattle.edges.specs.Edges.{AllHold, table}
 
 pub all-hold : AllHold table
-unfolding listed remainder remainderFrom afterByte shifts shiftBit row drops reading readingPast first goodLength passes bytesOf twosOf number digits firstAbove channelsImage packOf batteryValues
+unfolding listed remainder remainderFrom afterByte shifts shiftBit row drops reading readingPast first goodLength passes bytesOf twosOf number digits firstAbove channelsImage packOf batteryValues batteryImage
 all-hold = (
   refl,
   (
@@ -31,7 +31,7 @@ all-hold = (
               refl,
               (
                 refl,
-                (refl, (refl, (refl, (refl, (refl, (refl, (refl, (refl, tt)))))))),
+                (refl, (refl, (refl, (refl, (refl, (refl, (refl, (refl, (refl, (refl, (refl, (refl, (refl, (refl, tt)))))))))))))),
               ),
             ),
           ),

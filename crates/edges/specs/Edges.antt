@@ -8,13 +8,14 @@ use lib.IntN.{ℤ}
 use Rattle.reading.specs.Edges as reading
 use Rattle.reading.specs.Edges.{shown}
 use Rattle.reading.specs.Reading.{limit, reading}
-use Rattle.writing.specs.Writing.{bytes}
+use Rattle.refusals.specs.declared.Refusal.the-variants.{CapacityRange}
+use Rattle.writing.specs.Writing.{bytes, refused}
 use Rattle.channels.specs.Channels.{channelsImage}
 use Rattle.channels.specs.Edges as channels
 use Rattle.altitude.specs.Altitude.{packOf}
 use Rattle.altitude.specs.Edges.{packEdges}
 use Rattle.records.specs.Battery.{batteryImage}
-use Rattle.records.specs.Edges.{batteryEdges}
+use Rattle.records.specs.Edges.{batteryEdges, capacityEdges}
 use Rattle.records.specs.declared.battery.Battery.{Battery}
 
 -- what is so in a case
@@ -27,6 +28,8 @@ pub data Case : Type 0 where
   packs : ℤ × ℕ → Case
   -- a battery is written as these bytes
   writes : Battery × List ℕ → Case
+  -- a battery is refused for its capacity
+  refuses : Battery → Case
 
 -- that it is so
 abbrev pub IsSo : Case → Type 0
@@ -34,10 +37,13 @@ IsSo (gives e) = shown (reading limit (e .input)) ≡ e .gives
 IsSo (carries e) = channelsImage (e .channels) ≡ bytes (e .gives)
 IsSo (packs (d, word)) = packOf d ≡ word
 IsSo (writes (battery, payload)) = batteryImage battery ≡ bytes payload
+IsSo (refuses battery) = batteryImage battery ≡ refused CapacityRange
 
 abbrev pub AllHold : List Case → Type 0
 AllHold [] = Unit {0}
 AllHold (c ∷ more) = IsSo c × AllHold more
 
 abbrev pub table : List Case
-table = map gives reading.edges ++ map carries channels.edges ++ map packs packEdges ++ map writes batteryEdges
+table =
+    map gives reading.edges ++ map carries channels.edges ++ map packs packEdges ++ map writes batteryEdges
+    ++ map refuses capacityEdges

@@ -1,4 +1,5 @@
 // Runs published vectors and worked cases, and writes what the library gives. The stored output was made from what was published, and from the rules.
+mod battery_edges;
 mod check_byte;
 mod edges;
 mod lists;
@@ -14,6 +15,8 @@ fn main() {
     lists::every_byte();
     heading(b"Both sides of each edge");
     edges::cases();
+    heading(b"Batteries at both sides of the largest capacity");
+    battery_edges::cases();
     heading(b"Series at both sides of each edge");
     series_edges::cases();
 }

@@ -1,7 +1,9 @@
 // Series at both sides of each edge: payloads that end in an unfinished value, and payloads with the least and the most that is read; counts of values
 // that are made, and that are written into buffers with and without room; then values at the edges of their type.
+use crate::show::BEFORE;
+use crate::show::left;
+use crate::show::named;
 use crate::show::payload;
-use crate::show::spelled;
 use layout::ReadAnswer;
 use libc::STDOUT_FILENO;
 use series::rpm::Rpm;
@@ -15,11 +17,6 @@ fn front(bytes: &[u8], len: usize) -> &[u8] {
         return &bytes[0..len];
     }
     bytes
-}
-
-fn named(name: &[u8], len: usize) {
-    io::write_all(STDOUT_FILENO, name);
-    io::print_decimal(STDOUT_FILENO, len as u64);
 }
 
 fn refused(number: u8) {
@@ -175,24 +172,6 @@ fn voltages_of(count: usize) -> Voltages {
     }
 }
 
-// How many bytes were written, or the number of the refusal; then what the buffer has.
-fn left(written: Written, buffer: &[u8]) {
-    match written {
-        Written::Refused(refusal) => {
-            let row = refusals::row_of(refusal);
-            io::write_all(STDOUT_FILENO, b": refused ");
-            io::print_decimal(STDOUT_FILENO, row.number as u64);
-        }
-        Written::Wrote(n) => {
-            io::write_all(STDOUT_FILENO, b": bytes ");
-            io::print_decimal(STDOUT_FILENO, n as u64);
-        }
-    }
-    io::write_all(STDOUT_FILENO, b", left ");
-    spelled(buffer);
-    io::write_all(STDOUT_FILENO, b"\n");
-}
-
 // A record of this count, written into the buffer.
 fn rpm_in(buffer: &mut [u8], count: usize) {
     named(b"rpm ", count);
@@ -227,9 +206,6 @@ fn rpm_framed_in(buffer: &mut [u8], count: usize, dest: u8) {
     let written = frames::write_rpm(buffer, dest, rpm_of(count));
     left(written, buffer);
 }
-
-// What stands in a buffer before it is written.
-const BEFORE: u8 = 0xEE;
 
 fn rpm_counted(count: usize, room: usize) {
     let mut buffer = [BEFORE; 70];

@@ -36,3 +36,29 @@ pub fn payload(written: Written, buffer: &[u8]) {
         Written::Refused(_) => shown(buffer, 0),
     }
 }
+
+pub fn named(name: &[u8], len: usize) {
+    io::write_all(STDOUT_FILENO, name);
+    io::print_decimal(STDOUT_FILENO, len as u64);
+}
+
+// What stands in a buffer before it is written.
+pub const BEFORE: u8 = 0xEE;
+
+// How many bytes were written, or the number of the refusal; then what the buffer has.
+pub fn left(written: Written, buffer: &[u8]) {
+    match written {
+        Written::Refused(refusal) => {
+            let row = refusals::row_of(refusal);
+            io::write_all(STDOUT_FILENO, b": refused ");
+            io::print_decimal(STDOUT_FILENO, row.number as u64);
+        }
+        Written::Wrote(n) => {
+            io::write_all(STDOUT_FILENO, b": bytes ");
+            io::print_decimal(STDOUT_FILENO, n as u64);
+        }
+    }
+    io::write_all(STDOUT_FILENO, b", left ");
+    spelled(buffer);
+    io::write_all(STDOUT_FILENO, b"\n");
+}
