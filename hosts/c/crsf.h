@@ -56,9 +56,9 @@
 
 /* The version of this header and of the archive, and nowhere else decided: CHANGELOG.md says what changed. */
 #define CRSF_VERSION_MAJOR 0
-#define CRSF_VERSION_MINOR 4
+#define CRSF_VERSION_MINOR 5
 #define CRSF_VERSION_PATCH 0
-#define CRSF_VERSION "0.4.0"
+#define CRSF_VERSION "0.5.0"
 
 #ifdef __cplusplus
 extern "C" {
@@ -68,7 +68,7 @@ extern "C" {
 
 /* A field that an answer does not speak of is 0: after CRSF_MORE and after a refusal, len is 0. The struct comes back by value, in one register. */
 typedef struct crsf_answer {
-    uint8_t number;   /* CRSF_OK or CRSF_FRAME, 0; CRSF_MORE; or a refusal, 1 to 10 */
+    uint8_t number;   /* CRSF_OK or CRSF_FRAME, 0; CRSF_MORE; or a refusal, 1 to 11 */
     uint8_t taken;    /* how many bytes of the input were taken: by crsf_next_raw_packet at most 64, by crsf_log_next at most 71 */
     uint8_t in_state; /* of a frame: 1 where its bytes stand in the state, 0 where they stand in the input */
     uint8_t at;       /* of a frame: where it begins, in the bytes of the state or in the input */
@@ -93,6 +93,7 @@ enum {
     CRSF_INVALID_LOG = 9,            /* of a log: a malformed number, a first number other than 1, an end inside an entry or before the 1, a byte
                                       * behind the end */
     CRSF_INVALID_FRAME = 10,         /* of a log: a length that is not 4 to 64, or bytes that are not one whole valid frame */
+    CRSF_CAPACITY_RANGE = 11,        /* a battery's capacity of 2^24 or more, for which its 24 bits have no room. Nothing was written */
     CRSF_MORE = 255                  /* no answer yet: all of the input is taken, and more is asked for */
 };
 
@@ -181,7 +182,7 @@ enum {
     CRSF_TYPE_RC_CHANNELS_PACKED = 0x16
 };
 
-/* Writers: a whole frame to the front of the buffer, and len is how many bytes it has; or refusal 7, then 4 or 6, then 5, with the buffer
+/* Writers: a whole frame to the front of the buffer, and len is how many bytes it has; or refusal 7, then 4, 6 or 11, then 5, with the buffer
  * unchanged. A frame never has more than 64 bytes, and no byte past it is touched. dest is the address that the frame is sent to, as 0xC8, the
  * flight controller's. */
 
@@ -226,7 +227,7 @@ crsf_answer crsf_write_gps_extended(uint8_t *buffer, size_t buffer_len, uint8_t 
 /* A battery.
  *   voltage         tenths of a volt: 120 is 12 V
  *   current         tenths of an ampere: 15 is 1.5 A
- *   capacity_used   mAh; the low 24 bits are written
+ *   capacity_used   mAh, at most 16,777,215 (else 11), since it is written in 24 bits
  *   remaining       percent
  *   id              the sensor; 0 is not written, and a payload without one is read as 0 */
 crsf_answer crsf_write_battery(uint8_t *buffer, size_t buffer_len, uint8_t dest, int16_t voltage, int16_t current, uint32_t capacity_used,

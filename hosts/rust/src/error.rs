@@ -31,6 +31,8 @@ pub enum CrsfParsingError {
     ChannelRange(usize),
     /// 7: the destination is not an address.
     BadAddress,
+    /// 11: a battery's capacity of 2^24 or more, for which its 24 bits have no room.
+    CapacityRange,
 }
 
 /// What a log's reader or writer refuses.
@@ -63,6 +65,7 @@ impl CrsfParsingError {
             4 => CrsfParsingError::InvalidPayloadLength,
             6 => CrsfParsingError::ChannelRange(answer.first.into()),
             7 => CrsfParsingError::BadAddress,
+            11 => CrsfParsingError::CapacityRange,
             _ => CrsfParsingError::BufferOverflow,
         }
     }
@@ -97,6 +100,7 @@ impl fmt::Display for CrsfParsingError {
             CrsfParsingError::BufferOverflow => write!(f, "the buffer is too short"),
             CrsfParsingError::ChannelRange(index) => write!(f, "channel {index} is above 2047"),
             CrsfParsingError::BadAddress => write!(f, "the destination is not an address"),
+            CrsfParsingError::CapacityRange => write!(f, "the capacity is above 16777215 mAh"),
         }
     }
 }

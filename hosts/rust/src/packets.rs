@@ -11,7 +11,8 @@ pub trait CrsfPacket: Sized {
     /// more than it has at most, is refused.
     fn from_bytes(payload: &[u8]) -> Result<Self, CrsfParsingError>;
 
-    /// The record as a whole frame at the front of `buffer`; the count of its bytes, at most 64. A refusal writes nothing.
+    /// The record as a whole frame at the front of `buffer`; the count of its bytes, at most 64. Refused, in this order: a `dest` that is not an
+    /// address, a channel above 2047 or a battery's capacity above 16,777,215, and a `buffer` that is too short. A refusal writes nothing.
     fn write_packet_to_buffer(&self, buffer: &mut [u8], dest: u8) -> Result<usize, CrsfParsingError>;
 }
 
@@ -139,7 +140,7 @@ Battery, 0x08, 5, read_battery, write_battery, {
     voltage: i16,
     /// Tenths of an ampere: 15 is 1.5 A.
     current: i16,
-    /// mAh; the low 24 bits are written.
+    /// mAh. It is written in 24 bits: a battery with more than 16,777,215 is not written.
     capacity_used: u32,
     /// Percent.
     remaining: u8,
