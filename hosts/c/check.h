@@ -1,4 +1,5 @@
-/* What the tests in C share: a check that stops at the first difference, an answer by its eight bytes, and the check byte bit by bit. */
+/* What the tests in C share: a check that stops at the first difference, an answer by its eight bytes, the addresses, the check byte bit by bit,
+ * and numbers that are no better than noise. */
 #ifndef CHECK_H
 #define CHECK_H
 
@@ -36,7 +37,15 @@ static inline int count(crsf_answer a, uint8_t len)
     return is(a, CRSF_OK, 0, 0, 0, len, 0, 0);
 }
 
-/* The check byte, bit by bit (RULES 4.5): nothing of the archive is asked. */
+/* Whether a byte is an address (RULES 3.1): nothing of the archive is asked, here and for the check byte. */
+static inline bool listed(uint8_t byte)
+{
+    static const uint8_t addresses[] = {0x00, 0x0E, 0x10, 0x12, 0x13, 0x14, 0x80, 0x90, 0x91, 0x92, 0x93, 0x94,
+                                        0x95, 0x96, 0x97, 0xC0, 0xC2, 0xC4, 0xC8, 0xCC, 0xCE, 0xEA, 0xEC, 0xEE};
+    return memchr(addresses, byte, sizeof addresses) != NULL;
+}
+
+/* The check byte, bit by bit (RULES 4.5). */
 static inline uint8_t check_byte(const uint8_t *bytes, size_t n)
 {
     unsigned rest = 0;
@@ -46,6 +55,14 @@ static inline uint8_t check_byte(const uint8_t *bytes, size_t n)
             rest = rest & 0x80 ? (rest << 1 ^ 0xD5) & 0xFF : rest << 1;
     }
     return (uint8_t)rest;
+}
+
+/* 24 bits, the same ones each time that a test is run. */
+static inline unsigned noise(void)
+{
+    static uint64_t seed = 1;
+    seed = seed * 6364136223846793005u + 1442695040888963407u;
+    return (unsigned)(seed >> 40);
 }
 
 #endif

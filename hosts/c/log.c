@@ -29,13 +29,6 @@ typedef struct reading {
     stand behind;
 } reading;
 
-static bool listed(uint8_t byte)
-{
-    static const uint8_t addresses[] = {0x00, 0x0E, 0x10, 0x12, 0x13, 0x14, 0x80, 0x90, 0x91, 0x92, 0x93, 0x94,
-                                        0x95, 0x96, 0x97, 0xC0, 0xC2, 0xC4, 0xC8, 0xCC, 0xCE, 0xEA, 0xEC, 0xEE};
-    return memchr(addresses, byte, sizeof addresses) != NULL;
-}
-
 static bool one_whole_frame(const uint8_t *bytes, size_t n)
 {
     return n >= 4 && n <= 64 && listed(bytes[0]) && bytes[1] == n - 2 && bytes[n - 1] == check_byte(bytes + 2, n - 3);
@@ -167,14 +160,6 @@ static size_t put_entry(uint8_t *out, uint32_t seconds, const uint8_t *bytes, si
 }
 
 /* ---- A reader beside the model -------------------------------------------------------------------------------------------------------------- */
-
-static uint64_t seed = 1;
-
-static unsigned noise(void)
-{
-    seed = seed * 6364136223846793005u + 1442695040888963407u;
-    return (unsigned)(seed >> 40);
-}
 
 /* A string, what it says, and where a reader is behind each of its beginnings that is not refused. */
 typedef struct text {
