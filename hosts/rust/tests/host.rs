@@ -212,6 +212,7 @@ fn records_come_back() {
     );
     comes_back(Battery { voltage: 120, current: 15, capacity_used: 0x010203, remaining: 50, id: 0 }, &[0, 0x78, 0, 0x0F, 1, 2, 3, 0x32]);
     comes_back(Battery { voltage: 120, current: 15, capacity_used: 0x010203, remaining: 50, id: 5 }, &[0, 0x78, 0, 0x0F, 1, 2, 3, 0x32, 5]);
+    comes_back(Battery { voltage: -1, current: 0, capacity_used: 0xFFFFFF, remaining: 0, id: 255 }, &[255, 255, 0, 0, 255, 255, 255, 0, 255]);
     comes_back(BaroAltitude { altitude_packed: 0x88E5, vertical_speed_packed: -2 }, &[0x88, 0xE5, 0xFE]);
     comes_back(Rpm::new(7, &[-1, -8388608]).unwrap(), &[7, 0xFF, 0xFF, 0xFF, 0x80, 0, 0]);
     comes_back(Temp::new(7, &[i16::MIN, -1, 0, i16::MAX]).unwrap(), &[7, 0x80, 0, 0xFF, 0xFF, 0, 0, 0x7F, 0xFF]);
@@ -231,6 +232,9 @@ fn refusals_in_their_order() {
     let packet = RcChannelsPacked(channels);
     assert_eq!(packet.write_packet_to_buffer(&mut buffer, 0xC9), Err(CrsfParsingError::BadAddress));
     assert_eq!(packet.write_packet_to_buffer(&mut buffer[..3], 0xC8), Err(CrsfParsingError::ChannelRange(9)));
+    let packet = Battery { voltage: 120, current: 15, capacity_used: 1 << 24, remaining: 50, id: 5 };
+    assert_eq!(packet.write_packet_to_buffer(&mut buffer[..3], 0xC9), Err(CrsfParsingError::BadAddress));
+    assert_eq!(packet.write_packet_to_buffer(&mut buffer[..3], 0xC8), Err(CrsfParsingError::CapacityRange));
     assert_eq!(Rpm::new(0, &[]), Err(CrsfParsingError::InvalidPayloadLength));
     assert_eq!(Rpm::new(0, &[0; 20]), Err(CrsfParsingError::InvalidPayloadLength));
     assert_eq!(Rpm::from_bytes(&[7, 1, 2]), Err(CrsfParsingError::InvalidPayloadLength));
