@@ -27,6 +27,7 @@ pub const CHANNEL_RANGE: u8 = 6;
 pub const BAD_ADDRESS: u8 = 7;
 pub const BAD_STATE: u8 = 8;
 pub const INVALID_FRAME: u8 = 10;
+pub const CAPACITY_RANGE: u8 = 11;
 pub const MORE: u8 = 255;
 
 /// Start, end, and 64 places.

@@ -11,7 +11,7 @@ type RustAnswer = Result<usize, CrsfParsingError>;
 /// One kind of record on both sides. Its fields are numbers in the struct's order; of a series the id, then the values.
 pub struct Record {
     pub name: &'static str,
-    /// The least and the greatest of each field's type.
+    /// The least and the greatest of each field: its type's or, of channels and of a battery's capacity, those that may be written (RULES 10).
     pub ranges: &'static [(i64, i64)],
     pub write_rust: fn(&[i64], PacketAddress, &mut [u8]) -> RustAnswer,
     pub write_ours: fn(&[i64], u8, &mut [u8]) -> Answer,
@@ -49,6 +49,7 @@ const I16: (i64, i64) = (-32768, 32767);
 const I32: (i64, i64) = (i32::MIN as i64, i32::MAX as i64);
 const U32: (i64, i64) = (0, u32::MAX as i64);
 const CHANNEL: (i64, i64) = (0, 2047);
+const CAPACITY: (i64, i64) = (0, (1 << 24) - 1);
 
 fn channels(f: &[i64]) -> [u16; 16] {
     std::array::from_fn(|i| f[i] as u16)
@@ -122,7 +123,7 @@ pub const RECORDS: [Record; 9] = [
     },
     Record {
         name: "battery",
-        ranges: &[I16, I16, U32, U8, U8],
+        ranges: &[I16, I16, CAPACITY, U8, U8],
         write_rust: |f, dest, b| write_packet_to_buffer(b, dest, &battery(f)),
         write_ours: |f, dest, b| ours::write_battery(b, dest, &battery(f)),
         read_rust: |p, out| {
@@ -252,10 +253,15 @@ impl Record {
         ["RPM", "temperatures", "voltages"].contains(&self.name)
     }
 
-    /// What is not compared when written: temperatures and voltages without a value, an id alone. The Rust makes and writes them, ours refuses them
-    /// with 4 (docs/DIFFERENCES.md). A new RPM record without a value is refused by both.
+    /// What is not compared when written (docs/DIFFERENCES.md). Temperatures and voltages without a value, an id alone: the Rust makes and writes them,
+    /// ours refuses them with 4; a new RPM record without a value is refused by both. A battery with a capacity of 2^24 or more: the Rust writes the low
+    /// 24 bits, ours refuses it with 11.
     pub fn is_left_out(&self, fields: &[i64]) -> bool {
-        self.is_series() && self.name != "RPM" && fields.len() == 1
+        match self.name {
+            "temperatures" | "voltages" => fields.len() == 1,
+            "battery" => fields[2] > CAPACITY.1,
+            _ => false,
+        }
     }
 
     /// What is not compared when read: RPM of 3 bytes. The Rust reads a record without a value, ours refuses it with 4 (docs/DIFFERENCES.md).
@@ -342,7 +348,7 @@ impl Record {
 
     /// Fields at random: of a series, any count of values that is compared.
     pub fn random_fields(&self, r: &mut Rng) -> Vec<i64> {
-        let least = if self.is_left_out(&[0]) { 2 } else { 1 };
+        let least = if self.is_series() && self.is_left_out(&[0]) { 2 } else { 1 };
         let n = if self.is_series() { least + r.below(self.ranges.len() + 1 - least) } else { self.ranges.len() };
         (0..n).map(|i| self.random_field(r, i)).collect()
     }
@@ -412,6 +418,7 @@ struct Records<'f> {
 
 impl Records<'_> {
     fn write(&mut self, record: &Record, fields: &[i64], dest: u8, len: usize) {
+        assert!(!record.is_left_out(fields), "{} {fields:?} is compared in a family of its own", record.name);
         let fill = self.rng.byte();
         self.family.compared(1);
         if record.write_differs(fields, dest, len, fill).is_some() {
@@ -519,12 +526,23 @@ pub fn compare(report: &mut Report, seed: u64, random: u64) {
             }
         }
     });
-    beyond(report);
+    run(report, "records written: capacities at their edges, below 2^24", &mut |s, record| {
+        if record.name == "battery" {
+            for (capacity, id) in edges(CAPACITY.0, CAPACITY.1).into_iter().flat_map(|capacity| [0, 5, 255].map(|id| (capacity, id))) {
+                for (dest, len) in (0..=255).flat_map(|dest| (0..=16).map(move |len| (dest, len))) {
+                    let mut fields = record.random_fields(&mut s.rng);
+                    (fields[2], fields[4]) = (capacity, id);
+                    s.write(record, &fields, dest, len);
+                }
+            }
+        }
+    });
+    beyond(report, seed);
 }
 
-/// What the Rust's own types rule out or get wrong, and the rules decide: channels above 2047, series without a value, written or read (RULES 10), too
-/// few places to read into (RULES 14).
-fn beyond(report: &mut Report) {
+/// What the Rust's own types rule out or get wrong, and the rules decide: channels above 2047, batteries with a capacity of 2^24 or more, series without
+/// a value, written or read (RULES 10), too few places to read into (RULES 14).
+fn beyond(report: &mut Report, seed: u64) {
     let spills = report.lists("channel 0 set to 2048, the others 0");
     report.family("channels above 2047: the Rust lets them spill, ours refuses", |family| {
         let record = &RECORDS[1];
@@ -544,6 +562,46 @@ fn beyond(report: &mut Report) {
                             family.differs(|| told);
                         }
                     }
+                }
+            }
+        }
+    });
+    let low_bits = report.lists("a battery with a capacity of 16,777,216 or more, written (the smallest: 16,777,216)");
+    report.family("capacities of 2^24 or more: the Rust writes the low 24 bits", |family| {
+        let record = &RECORDS[4];
+        let mut rng = Rng::new(seed.wrapping_add(11 << 40));
+        let at_edges = edges(U32.0, U32.1).into_iter().map(|capacity| [0, 0, capacity, 0, 0]).filter(|fields| record.is_left_out(fields));
+        // None stands for fields at random.
+        for (fields, id) in at_edges.map(Some).chain([None; 40]).flat_map(|fields| [0, 5, 255].map(|id| (fields, id))) {
+            // Buffers that are long enough come first, so that the first difference shows what the Rust writes.
+            for (dest, len) in (0..=255).flat_map(|dest| (12..=16).chain(0..12).map(move |len| (dest, len))) {
+                let mut fields = fields.unwrap_or_else(|| {
+                    let mut at_random = std::array::from_fn(|i| record.random_field(&mut rng, i));
+                    at_random[2] = rng.within(CAPACITY.1 + 1, U32.1);
+                    at_random
+                });
+                fields[4] = id;
+                let mut buffer = [0x5A; 20];
+                let got = (record.write_ours)(&fields, dest, &mut buffer[..len]);
+                let number = if ADDRESSES.contains(&dest) { ours::CAPACITY_RANGE } else { ours::BAD_ADDRESS };
+                let input = || format!("battery {fields:?} to {dest:02X} in {len} bytes, by RULES 10");
+                family.same((Answer::refusal(number), [0x5A; 20]), (got, buffer), input);
+                if let Some(told) = record.write_differs(&fields, dest, len, 0x5A) {
+                    if low_bits {
+                        family.differs_as_listed();
+                    } else {
+                        family.differs(|| told);
+                    }
+                }
+                // What is listed of the Rust: its answer and its bytes are those of the low 24 bits.
+                if let Ok(address) = PacketAddress::try_from(dest) {
+                    let of_capacity = |capacity| {
+                        let mut buffer = [0x5A; 20];
+                        let answer = (record.write_rust)(&[fields[0], fields[1], capacity, fields[3], id], address, &mut buffer[..len]);
+                        (answer.map_err(number_of), buffer)
+                    };
+                    let input = || format!("the Rust's own battery {fields:?} to {dest:02X} in {len} bytes");
+                    family.same(of_capacity(fields[2] % (1 << 24)), of_capacity(fields[2]), input);
                 }
             }
         }
