@@ -17,7 +17,8 @@
 //!
 //! r counts link statistics, channels, GPS, GPS extended, battery, altitude, RPM, temperatures, voltages from 0. Of the last three, written, a has the
 //! id as its first field and a value in each other one; read, the id stands in the answer and c has the values. Temperatures and voltages without a
-//! value are not written (`Record::is_left_out`), and RPM of 3 bytes is not read (`Record::is_left_out_read`).
+//! value, and batteries with a capacity of 2^24 or more, are not written (`Record::is_left_out`), and RPM of 3 bytes is not read
+//! (`Record::is_left_out_read`).
 use crate::gen::{self, Rng, ADDRESSES, EDGES};
 use crate::ours::{self, Answer};
 use crate::queries::{self, CHECK};
@@ -117,6 +118,7 @@ fn read(pages: &mut Pages, r: usize, record: &Record, payload: &[u8]) {
 }
 
 fn write(pages: &mut Pages, r: usize, record: &Record, fields: &[i64], dest: u8, len: usize, fill: u8) {
+    assert!(!record.is_left_out(fields), "{} {fields:?} is left out", record.name);
     let mut buffer = vec![fill; len];
     let answer = match PacketAddress::try_from(dest) {
         Err(_) => Answer::refusal(ours::BAD_ADDRESS),
@@ -187,6 +189,10 @@ pub fn sample(seed: u64) -> (Vec<u8>, usize) {
                 write(&mut pages, i, record, &fields, 0xC8, 70, 0xA5);
             }
         }
+    }
+    // The greatest capacity that a battery may have, without an id and with one, in buffers too short, just long enough and longer.
+    for (id, len) in [0, 5].into_iter().flat_map(|id| (11..=14).map(move |len| (id, len))) {
+        write(&mut pages, 4, &RECORDS[4], &[120, 15, (1 << 24) - 1, 50, id], 0xC8, len, 0xA5);
     }
     pages.end_page();
     (pages.bytes, pages.cases)
