@@ -92,6 +92,13 @@ module _ (dest kind : ℕ) (b : List ℕ) (from to : ℕ) (starts : from ≡ pay
   unfolding framedBody
   as-refused r = refuses r b
 
+  said : {w w′ : Written} {ys : List ℕ} {x : List ℕ × List ℕ} → _≡_ {A = Written × List ℕ} (w, ys) (w′, cutOut b from to)
+      → (writtenRow w′, b) ≡ x
+      → (writtenRow w, around b from to ys) ≡ x
+  said {w} {w′} same h =
+      ap (λ (y : Written × List ℕ). (writtenRow (y .0), around b from to (y .1))) same
+      ∙ ap (λ (l : List ℕ). (writtenRow w′, l)) (around-kept b from to) ∙ h
+
   pub lent : (image : Image) {w : Written} {ys : List ℕ} → Small image → (writtenRow w, ys) ≡ writeOf image (cutOut b from to) → Fr image w ys
   lent (bytes pay) small e =
       ⊎-elim
@@ -103,6 +110,14 @@ module _ (dest kind : ℕ) (b : List ℕ) (from to : ℕ) (starts : from ≡ pay
       (below (length b) (length pay + 4))
   lent (refused r) small e = again (one-write e (refuses r (cutOut b from to))) (passed (refused r) r (as-refused r))
 
+  -- .. and a writer that is lent no place refuses, and that is what the frame's writer answers
+  pub lent-none : (image : Image) (w : Written) {ys : List ℕ} → length b < 4 → Small image → (writtenRow w, ys) ≡ writeOf image (cutOut b from to)
+      → (writtenRow w, around b from to ys) ≡ writeOf (framedBody dest kind image) b
+  lent-none (bytes pay) w none small e =
+      said (one-write e (overflows pay (cutOut b from to) (length pay) refl (omega (arith, places-length, small .0))))
+      (short pay (length pay) dest kind refl b (omega arith))
+  lent-none (refused r) w none small e = said (one-write e (refuses r (cutOut b from to))) (as-refused r)
+
 -- ---- the address is tested first
 
 module _ (dest kind : ℕ) (image : Image) (b : List ℕ) where
@@ -110,8 +125,11 @@ module _ (dest kind : ℕ) (image : Image) (b : List ℕ) where
   unfolding framed
   unlisted none = rw none (refuses BadAddress b)
 
+  pub addressed-as : listed dest ≡ true → {x : List ℕ × List ℕ} → x ≡ writeOf (framedBody dest kind image) b → x ≡ writeOf (framed dest kind image) b
+  unfolding framed
+  addressed-as address e = rw address e
+
   pub addressed : {from to : ℕ} {w : Written} {ys : List ℕ} → listed dest ≡ true → Framed dest kind b from to image w ys
       → {r : Written} {after : List ℕ} → _≡_ {A = Written × List ℕ} (r, after) (sealedOf dest kind w (around b from to ys))
       → (writtenRow r, after) ≡ writeOf (framed dest kind image) b
-  unfolding framed
-  addressed address f {r} {after} q = rw address (f .is r after q)
+  addressed address f {r} {after} q = addressed-as address (f .is r after q)

@@ -17,7 +17,7 @@ ghost use Rattle.frames.specs.Frames.{overhead, mostPayload, payloadStar
 const HEAD: usize = 3;
 
 // The head and the check byte.
-const OVERHEAD: usize = 4;
+pub(crate) const OVERHEAD: usize = 4;
 
 fn put_head(buffer: &mut [u8], dest: u8, count: u8, kind: u8)
     requires { ⌜ 3 ≤ length (now buffer) ⌝ }

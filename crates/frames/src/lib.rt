@@ -5,6 +5,7 @@
 mod frame;
 
 use channels::RcChannelsPacked;
+use frame::OVERHEAD;
 use frame::payload_room;
 use frame::payload_start;
 use frame::sealed;
@@ -87,7 +88,11 @@ pub fn write_battery(buffer: &mut [u8], dest: u8, packet: Battery) -> Written
     if !is_address(dest) {
         return Written::Refused(Refusal::BadAddress);
     }
-    // Two arms, each of one size: the compiler tests the length once in each, and knows every place.
+    // No room for head and check byte: the record's own writer is lent no place, and refuses.
+    if buffer.len() < OVERHEAD {
+        return packet.to_bytes(&mut buffer[0..0]);
+    }
+    // Two arms, each of one size: the compiler tests the length once in each, and knows every place, also where the capacity is tested in between.
     if packet.id == 0 {
         let from = payload_start(buffer.len());
         let to = from + payload_room(buffer.len());
