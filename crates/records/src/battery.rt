@@ -15,7 +15,7 @@ pub struct Battery {
     // 0.1 V and 0.1 A.
     pub voltage: i16,
     pub current: i16,
-    // mAh. It is written in 24 bits: more than they hold is refused then.
+    // mAh. A record may have any; one above MAX_CAPACITY is not written.
     pub capacity_used: u32,
     // Percent.
     pub remaining: u8,
@@ -35,6 +35,7 @@ impl Battery {
 
     pub const SIZE_WITH_ID: usize = 9;
 
+    // What the three bytes of a capacity hold.
     pub const MAX_CAPACITY: u32 = 0xFF_FFFF;
 
     // A record with no id.

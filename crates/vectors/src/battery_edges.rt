@@ -1,5 +1,5 @@
 // Batteries at both sides of the largest capacity that 24 bits hold, with an id and without: payloads and frames, to an address and to a byte that is
-// none, into buffers that they fill and into those with a place less.
+// none, into buffers that they fill and into those with a place less; and frames into buffers with and without room for head and check byte.
 use crate::show::BEFORE;
 use crate::show::left;
 use crate::show::named;
@@ -69,6 +69,10 @@ fn capacity(capacity_used: u32) {
     framed(long, 12, 0xC8);
     framed(long, 13, 0xC9);
     framed(long, 12, 0xC9);
+    framed(long, 0, 0xC8);
+    framed(long, 3, 0xC8);
+    framed(long, 4, 0xC8);
+    framed(long, 3, 0xC9);
 }
 
 pub fn cases() {
