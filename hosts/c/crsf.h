@@ -227,7 +227,7 @@ crsf_answer crsf_write_gps_extended(uint8_t *buffer, size_t buffer_len, uint8_t 
 /* A battery.
  *   voltage         tenths of a volt: 120 is 12 V
  *   current         tenths of an ampere: 15 is 1.5 A
- *   capacity_used   mAh, at most 16,777,215 (else 11), since it is written in 24 bits
+ *   capacity_used   mAh, at most CRSF_CAPACITY_MAX (else 11), since it is written in 24 bits
  *   remaining       percent
  *   id              the sensor; 0 is not written, and a payload without one is read as 0 */
 crsf_answer crsf_write_battery(uint8_t *buffer, size_t buffer_len, uint8_t dest, int16_t voltage, int16_t current, uint32_t capacity_used,
@@ -266,6 +266,7 @@ enum {
     CRSF_GPS_NUMBERS = 6,
     CRSF_GPS_EXTENDED_NUMBERS = 12,
     CRSF_BATTERY_NUMBERS = 5,
+    CRSF_CAPACITY_MAX = 16777215, /* the most mAh that a battery is written with */
     CRSF_BARO_ALTITUDE_NUMBERS = 2,
     CRSF_RPM_VALUES_MAX = 19,
     CRSF_TEMPERATURES_MAX = 20,

@@ -140,13 +140,18 @@ Battery, 0x08, 5, read_battery, write_battery, {
     voltage: i16,
     /// Tenths of an ampere: 15 is 1.5 A.
     current: i16,
-    /// mAh. It is written in 24 bits: a battery with more than 16,777,215 is not written.
+    /// mAh. It is written in 24 bits: a battery with more than [`Battery::MAX_CAPACITY`] is not written.
     capacity_used: u32,
     /// Percent.
     remaining: u8,
     /// The sensor. 0 is not written, and a payload without one is read as 0.
     id: u8,
 });
+
+impl Battery {
+    /// The most mAh that a battery is written with.
+    pub const MAX_CAPACITY: u32 = 0xFF_FFFF;
+}
 
 record!(
 /// Altitude by air pressure.
