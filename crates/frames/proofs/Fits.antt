@@ -35,7 +35,7 @@ use Rattle.records.specs.declared.battery.Battery.{Battery}
 use Rattle.records.specs.declared.baro_altitude.BaroAltitude.{BaroAltitude}
 use Rattle.positions.proofs.Laws.{gps-long, gps-extended-long}
 use Rattle.records.proofs.Laws.{link-statistics-long, baro-altitude-long}
-use Rattle.records.proofs.BatteryLaws.{battery-long}
+use Rattle.records.proofs.BatteryLaws.{battery-few}
 use Rattle.frames.specs.Frames.{mostPayload, Small}
 
 small-as : {image image′ : Image} → image ≡ image′ → Small image′ → Small image
@@ -91,4 +91,4 @@ pub baro-altitude-small : (x : BaroAltitude) → Small (baroAltitudeImage x)
 baro-altitude-small x = omega (arith, baro-altitude-long x)
 
 pub battery-small : (x : Battery) → Small (batteryImage x)
-battery-small x = small-if (batteryImage x) (λ payload e. omega (arith, battery-long x payload e))
+battery-small x = small-if (batteryImage x) (λ payload e. omega (arith, battery-few x payload e))

@@ -1,5 +1,5 @@
--- The one law of the frame writers: the record's own writer is lent the payload's places of the buffer, behind the head and before the check byte;
--- what it leaves there is framed, or its refusal is passed on and every byte kept.
+-- The law of the frame writers, `lent`: the record's own writer is lent the payload's places of the buffer, behind the head and before the check byte;
+-- what it leaves there is framed, or its refusal is passed on and every byte kept. Where it is lent no place it refuses: `lent-none`.
 -- Assumes nothing.
 use mathlib.Core.Path.{_≡_, refl, sym, ap, subst, _∙_}
 use mathlib.Core.Bool.{true, false}

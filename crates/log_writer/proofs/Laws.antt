@@ -6,7 +6,7 @@ use mathlib.Core.List.{List, [], _∷_, _++_, append-assoc, append-nil}
 use Prim.Native.Nat.{ℕ, suc, _+_, _*_, _≤_, _<_, _/_}
 use native.Mathlib.Nat.{zero-add, div-lt-iff-lt-mul}
 use native.Mathlib.Omega.{arith}
-use borrow.Author.Tests.{ltb-true, ltb-false, leb-true}
+use borrow.Author.Tests.{ltb-true, ltb-false}
 use lib.Dec.{leb, ltb, lit<}
 use lib.ListN.{length, getD, take, drop, take-append-drop, length-append, length-drop}
 use lib.Seq.{drop-drop, take-at}
@@ -15,12 +15,12 @@ use Rattle.base.specs.Parts.{pasted}
 use Rattle.base.proofs.Tests.{by-test}
 use Rattle.base.proofs.Parts.{length-pasted, pasted-append, pasted-front}
 use Rattle.refusals.specs.Row.{rowOf}
-use Rattle.refusals.specs.declared.Refusal.{Refusal}
-use Rattle.refusals.specs.declared.Refusal.the-variants.{BufferOverflow, InvalidFrame}
+use Rattle.refusals.specs.declared.Refusal.the-variants.{InvalidFrame}
 use Rattle.refusals.proofs.Rows.{not-zero}
-use Rattle.writing.specs.declared.Written.the-variants.{Wrote, Refused}
-use Rattle.writing.specs.Writing.{Image, bytes, refused, wroteRow, writtenRow, writeOf}
+use Rattle.writing.specs.declared.Written.the-variants.{Wrote}
+use Rattle.writing.specs.Writing.{Image, bytes, refused, writtenRow, writeOf}
 use Rattle.writing.proofs.Writing.{writes}
+use Rattle.writing.proofs.Left.{left, kept}
 use Rattle.groups.specs.Groups.{groups}
 use Rattle.groups.proofs.Groups.{some-group}
 use Rattle.groups.proofs.Steps.{one-long, more-long}
@@ -62,40 +62,6 @@ module _ (t : ℕ) (c : List ℕ) where
       (λ f. let z : _≡_ {A = ℕ} 5 10 = ap (λ (l : List ℕ). getD l 0 0) (simp f at q) in omega arith)
 
 -- ---- WHAT A CALL LEFT
-
--- bytes that were written, all of them
-record Left (bs buffer : List ℕ) (n : ℕ) (after : List ℕ) : Type 0 where
-  count : n ≡ length bs
-  room : length bs ≤ length buffer
-  content : after ≡ pasted buffer 0 bs
-
-left : (bs buffer : List ℕ) (n : ℕ) {after : List ℕ} → (writtenRow (Wrote n), after) ≡ writeOf (bytes bs) buffer → Left bs buffer n after
-unfolding writeOf writtenRow
-left bs buffer n {after} e =
-    by-test (leb (length bs) (length buffer))
-    (λ f.
-    let q : (wroteRow n, after) ≡ (wroteRow (length bs), pasted buffer 0 bs) = simp f at e in
-    record {
-      count = ap (λ (x : List ℕ × List ℕ). getD (x .0) 1 0) q;
-      room = leb-true _ _ f;
-      content = ap (λ (x : List ℕ × List ℕ). x .1) q;
-    })
-    (λ f.
-    let q : (wroteRow n, after) ≡ (rowOf BufferOverflow, buffer) = simp f at e in
-    absurd (not-zero BufferOverflow (sym (ap (λ (x : List ℕ × List ℕ). x .0) q))))
-
--- a refused call changes no byte
-kept : (image : Image) (r : Refusal) {buffer after : List ℕ} → (writtenRow (Refused r), after) ≡ writeOf image buffer → after ≡ buffer
-unfolding writeOf writtenRow
-kept (refused s) r e = ap (λ (x : List ℕ × List ℕ). x .1) e
-kept (bytes bs) r {buffer} {after} e =
-    by-test (leb (length bs) (length buffer))
-    (λ f.
-    let q : (rowOf r, after) ≡ (wroteRow (length bs), pasted buffer 0 bs) = simp f at e in
-    absurd (not-zero r (ap (λ (x : List ℕ × List ℕ). x .0) q)))
-    (λ f.
-    let q : (rowOf r, after) ≡ (rowOf BufferOverflow, buffer) = simp f at e in
-    ap (λ (x : List ℕ × List ℕ). x .1) q)
 
 -- an entry that was written is sound
 valid-written : (t : ℕ) (c buffer : List ℕ) (n : ℕ) {after : List ℕ} → (writtenRow (Wrote n), after) ≡ writeOf (entryImage t c) buffer → Valid limit c

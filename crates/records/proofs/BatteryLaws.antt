@@ -1,7 +1,7 @@
 -- Batteries (RULES 10): a capacity that 24 bits don't hold is refused, and every other record is written; whatever was written is read back; and
 -- writing after reading gives the payload, for payloads of 8 bytes and those of 9 whose id is not 0.
 -- Assumes nothing.
-use Prim.Native.Nat.{ℕ, _^_, _≤_, _<_}
+use Prim.Native.Nat.{ℕ, _≤_, _<_}
 use mathlib.Core.List.{List, [], _∷_, _++_, append-nil}
 use mathlib.Core.Logic.{⊎-elim}
 use mathlib.Core.Path.{_≡_, sym, ap, _∙_}
@@ -19,7 +19,7 @@ use Rattle.base.proofs.Tests.{by-test, below}
 use Rattle.refusals.specs.declared.Refusal.the-variants.{CapacityRange}
 use Rattle.numbers.specs.BigEndian.{beOf}
 use Rattle.numbers.proofs.BigEndian.{beOf-lt}
-use Rattle.layout.specs.Layout.{Field, signed, unsigned, sizeOf, HoldsAll, readFrom, readAs, recordBytes}
+use Rattle.layout.specs.Layout.{signed, unsigned, sizeOf, HoldsAll, readFrom, readAs, recordBytes}
 use Rattle.writing.specs.Writing.{bytes, refused}
 use Rattle.layout.proofs.Fields.{length-recordBytes, readAs-written, written-payload}
 use Rattle.layout.specs.Decoded.{Decoded, decoded, tooShort}
@@ -48,8 +48,8 @@ module _ (x : Battery) where
   image-long fits some = image-bytes fits ∙ simp (ne-eqb (x .id) 0 some)
 
   -- where there are bytes to write, the capacity is one that 24 bits hold
-  known : (payload : List ℕ) → batteryImage x ≡ bytes payload → (x .«capacity_used» < tooLarge) × (batteryBytes x ≡ payload)
-  known payload e =
+  written-fits : (payload : List ℕ) → batteryImage x ≡ bytes payload → (x .«capacity_used» < tooLarge) × (batteryBytes x ≡ payload)
+  written-fits payload e =
       ⊎-elim
       (λ (fits : x .«capacity_used» < tooLarge). let these = image-bytes fits in (fits, cc))
       (λ (large : tooLarge ≤ x .«capacity_used»). let no = image-refused large in let z : _≡_ {A = ℕ} 0 1 = cc in absurd (omega arith))
@@ -69,8 +69,11 @@ module _ (x : Battery) where
   some-fields : 8 ≤ sizeOf (batteryFields (x .id))
   some-fields = by-test (eqb (x .id) 0) (λ none. rw none (lit≤ tt)) (λ some. rw some (lit≤ tt))
 
-  pub battery-long : (payload : List ℕ) → batteryImage x ≡ bytes payload → (8 ≤ length payload) × (length payload ≤ 9)
-  battery-long payload e = rw (← (known payload e .1), bytes-long) (some-fields, few-fields)
+  pub battery-long : (payload : List ℕ) → batteryImage x ≡ bytes payload → length payload ≡ sizeOf (batteryFields (x .id))
+  battery-long payload e = rw (← (written-fits payload e .1)) bytes-long
+
+  pub battery-few : (payload : List ℕ) → batteryImage x ≡ bytes payload → (8 ≤ length payload) × (length payload ≤ 9)
+  battery-few payload e = rw (battery-long payload e) (some-fields, few-fields)
 
 -- ---- READING AFTER WRITING
 
@@ -108,8 +111,9 @@ IsBattery x = HoldsAll (signed 2 ∷ signed 2 ∷ unsigned 4 ∷ unsigned 1 ∷ 
 pub battery-read-written : (x : Battery) (payload : List ℕ) → IsBattery x → batteryImage x ≡ bytes payload → batteryRead payload ≡ batteryDecoded (Record x)
 unfolding batteryValues
 battery-read-written x payload h e =
-    let k = known x payload e in
-    rw (← (k .1)) (bytes-read x (h .0, (h .1 .0, ((h .1 .1 .0 .0, k .0), (h .1 .1 .1 .0, (h .1 .1 .1 .1 .0, tt))))))
+    let w = written-fits x payload e in
+    let fits : x .«capacity_used» < 16777216 = omega (arith, w .0) in
+    rw (← (w .1)) (bytes-read x (h .0, (h .1 .0, ((h .1 .1 .0 .0, fits), (h .1 .1 .1 .0, (h .1 .1 .1 .1 .0, tt))))))
 
 -- ---- WRITING AFTER READING
 

@@ -12,7 +12,7 @@ use Rattle.refusals.specs.declared.Refusal.{Refusal}
 use Rattle.refusals.specs.declared.Refusal.the-variants.{InvalidSync, InvalidPacketLength, InvalidCrc, InvalidPayloadLength, BufferOverflow, ChannelRange, BadAddress, BadState, InvalidLog, InvalidFrame, CapacityRange}
 use Rattle.refusals.specs.Row.{rowOf, numberOf}
 
--- the refusal that a row is of
+-- the refusal that a row is of; of any other row one that it is not of
 abbrev pub refusalOf : List ℕ → Refusal
 refusalOf row =
     if eqb (getD row 0 0) 1 then InvalidSync (getD row 1 0) else
@@ -25,7 +25,8 @@ refusalOf row =
     if eqb (getD row 0 0) 8 then BadState else
     if eqb (getD row 0 0) 9 then InvalidLog else
     if eqb (getD row 0 0) 10 then InvalidFrame else
-    CapacityRange
+    if eqb (getD row 0 0) 11 then CapacityRange else
+    InvalidSync 0
 
 pub back : (r : Refusal) → refusalOf (rowOf r) ≡ r
 back (InvalidSync byte) = refl

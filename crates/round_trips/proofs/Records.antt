@@ -7,14 +7,17 @@ use Prim.Native.Nat.{ℕ, _+_, _*_, _^_, _≤_, _<_}
 use native.Mathlib.Omega.{arith}
 use lib.Dec.{lit≤, lit<}
 use lib.IntN.{ℤ, pos}
-use lib.ListN.{length, getD}
+use lib.ListN.{length, getD, take}
 use mir.Syntax.{w16}
 use mir.Val.{SFits}
 use Rattle.numbers.specs.TwosComplement.{InRange}
 use Rattle.packets.specs.Listed.{listed}
 use Rattle.reading.specs.Answer.{Frame}
 use Rattle.reading.specs.Reading.{limit, reading}
-use Rattle.writing.specs.Writing.{bytes}
+use Rattle.reading.specs.Frame.{frame}
+use Rattle.writing.specs.Writing.{bytes, writtenRow, writeOf}
+use Rattle.writing.specs.declared.Written.the-variants.{Wrote}
+use Rattle.writing.proofs.Left.{WroteBytes, wrote-bytes, at-front}
 use Rattle.view.specs.View.{payloadOf}
 use Rattle.layout.specs.Layout.{HoldsAll, recordBytes}
 use Rattle.layout.specs.Decoded.{readRow}
@@ -36,7 +39,7 @@ use Rattle.records.specs.declared.battery.BatteryRead.the-variants as battery
 use Rattle.records.specs.declared.baro_altitude.BaroAltitude.{BaroAltitude}
 use Rattle.records.specs.declared.baro_altitude.BaroAltitudeRead.the-variants as baro
 use Rattle.records.proofs.Laws.{link-statistics-long, link-statistics-read-written, baro-altitude-long, baro-altitude-read-written}
-use Rattle.records.proofs.BatteryLaws.{IsBattery, battery-long, battery-read-written}
+use Rattle.records.proofs.BatteryLaws.{IsBattery, battery-few, battery-read-written}
 use Rattle.series.specs.Series.{Kind, Counted, countedMade, countedRead, seriesBytes, countedImage, newImage}
 use Rattle.series.specs.Rpm.{rpmType, rpmKind, rpmOf, rpmCounted, rpmMade, rpmRead, rpmImage}
 use Rattle.series.specs.Temp.{tempType, tempKind, tempOf, tempCounted, tempMade, tempRead, tempImage}
@@ -89,7 +92,7 @@ module _ (dest : ℕ) (address : listed dest ≡ true) where
   pub battery-comes-back : (x : Battery) (payload : List ℕ) → IsBattery x → batteryImage x ≡ bytes payload
       → ComesBack (framed dest batteryType (batteryImage x)) batteryRead (batteryDecoded (battery.Record x))
   battery-comes-back x payload h e =
-      comes-back dest batteryType address (batteryImage x) payload e (omega (arith, battery-long x payload e)) batteryRead (batteryDecoded (battery.Record x))
+      comes-back dest batteryType address (batteryImage x) payload e (omega (arith, battery-few x payload e)) batteryRead (batteryDecoded (battery.Record x))
       (battery-read-written x payload h e)
 
   -- a series comes back as `of` makes a record of it
@@ -158,17 +161,26 @@ is-battery x voltage current capacity remaining id = (
   ),
 )
 
-module _ (dest : ℕ) (x : Battery) (f : List ℕ) (typed : IsBattery x) (written : framed dest batteryType (batteryImage x) ≡ bytes f) where
-  of-frame : FrameOf dest batteryType (batteryImage x) f
-  of-frame = frame-of dest batteryType (batteryImage x) f written
+-- a call of the frame's writer that says that it wrote n bytes
+module _ (dest : ℕ) (x : Battery) (buffer : List ℕ) (n : ℕ) {after : List ℕ} (typed : IsBattery x)
+    (call : (writtenRow (Wrote n), after) ≡ writeOf (framed dest batteryType (batteryImage x)) buffer) where
+  wrote : WroteBytes (framed dest batteryType (batteryImage x)) buffer n after
+  wrote = wrote-bytes (framed dest batteryType (batteryImage x)) buffer n call
 
-  pub battery-frame-read : reading limit f ≡ record { answers = Frame f ∷ []; tail = [] }
+  made : FrameOf dest batteryType (batteryImage x) (wrote .written)
+  made = frame-of dest batteryType (batteryImage x) (wrote .written) (wrote .is)
+
+  written-is : take n after ≡ frame dest (batteryType ∷ made .payload)
+  written-is = at-front (wrote .written) buffer n (wrote .left-so) ∙ made .whole
+
+  -- what it wrote is one frame ..
+  pub battery-frame-read : reading limit (take n after) ≡ record { answers = Frame (take n after) ∷ []; tail = [] }
   battery-frame-read =
-      rw (of-frame .whole)
-      (one-frame dest batteryType (of-frame .payload) (of-frame .address) (omega (arith, battery-long x (of-frame .payload) (of-frame .is))))
+      rw written-is (one-frame dest batteryType (made .payload) (made .address) (omega (arith, battery-few x (made .payload) (made .is))))
 
-  pub battery-read-back : batteryRead (payloadOf f) ≡ batteryDecoded (battery.Record x)
+  -- .. and of that the payload is read as the battery
+  pub battery-read-back : batteryRead (payloadOf (take n after)) ≡ batteryDecoded (battery.Record x)
   battery-read-back =
-      ap (λ (g : List ℕ). batteryRead (payloadOf g)) (of-frame .whole)
-      ∙ ap batteryRead (payload-framed dest batteryType (of-frame .payload))
-      ∙ battery-read-written x (of-frame .payload) typed (of-frame .is)
+      ap (λ (f : List ℕ). batteryRead (payloadOf f)) written-is
+      ∙ ap batteryRead (payload-framed dest batteryType (made .payload))
+      ∙ battery-read-written x (made .payload) typed (made .is)

@@ -6,16 +6,6 @@ use crate::show::named;
 use libc::STDOUT_FILENO;
 use records::battery::Battery;
 
-fn battery(capacity_used: u32, id: u8) -> Battery {
-    Battery {
-        voltage: 120,
-        current: 15,
-        capacity_used,
-        remaining: 50,
-        id,
-    }
-}
-
 fn titled(record: Battery) {
     io::write_all(STDOUT_FILENO, b"battery ");
     io::print_decimal(STDOUT_FILENO, record.capacity_used as u64);
@@ -53,16 +43,22 @@ fn framed(record: Battery, room: usize, dest: u8) {
     }
 }
 
-// Of 8 bytes, and of 9.
+// Of 8 bytes, as it is newly made, and of 9.
 fn capacity(capacity_used: u32) {
-    let short = battery(capacity_used, 0);
+    let short = Battery::new(120, 15, capacity_used, 50);
     payload(short, 8);
     payload(short, 7);
     framed(short, 12, 0xC8);
     framed(short, 11, 0xC8);
     framed(short, 12, 0xC9);
     framed(short, 11, 0xC9);
-    let long = battery(capacity_used, 5);
+    let long = Battery {
+        voltage: 120,
+        current: 15,
+        capacity_used,
+        remaining: 50,
+        id: 5,
+    };
     payload(long, 9);
     payload(long, 8);
     framed(long, 13, 0xC8);

@@ -1,7 +1,7 @@
 -- `frames::write_battery` meets its contract: where no place is lent, the record's own writer refuses; what it leaves in the payload's places is framed,
 -- in each arm.
 -- Assumes nothing.
-use mathlib.Core.Path.{_≡_, sym, _∙_}
+use mathlib.Core.Path.{_≡_, sym}
 use mathlib.Core.Bool.{true}
 use Prim.Native.Nat.{_+_}
 use native.Mathlib.Omega.{arith}
