@@ -224,6 +224,8 @@ crsf_answer crsf_write_gps_extended(uint8_t *buffer, size_t buffer_len, uint8_t 
                                     int16_t v_speed, int16_t h_speed_acc, int16_t track_acc, int16_t alt_ellipsoid, int16_t h_acc,
                                     int16_t v_acc, uint8_t reserved, uint8_t h_dop, uint8_t v_dop);
 
+enum { CRSF_CAPACITY_MAX = 16777215 }; /* the most mAh that a battery is written with */
+
 /* A battery.
  *   voltage         tenths of a volt: 120 is 12 V
  *   current         tenths of an ampere: 15 is 1.5 A
@@ -266,7 +268,6 @@ enum {
     CRSF_GPS_NUMBERS = 6,
     CRSF_GPS_EXTENDED_NUMBERS = 12,
     CRSF_BATTERY_NUMBERS = 5,
-    CRSF_CAPACITY_MAX = 16777215, /* the most mAh that a battery is written with */
     CRSF_BARO_ALTITUDE_NUMBERS = 2,
     CRSF_RPM_VALUES_MAX = 19,
     CRSF_TEMPERATURES_MAX = 20,

@@ -1,5 +1,6 @@
 //! Runs the Rust original and the port on the same inputs and compares every answer; or times both. compare/run starts it.
 mod bench;
+mod beyond;
 mod framing;
 mod gen;
 mod listing;

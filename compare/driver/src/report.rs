@@ -23,9 +23,13 @@ impl Family {
             self.first = Some(describe());
         }
     }
-    /// A difference of a kind that docs/DIFFERENCES.md lists.
-    pub fn differs_as_listed(&mut self) {
-        self.listed += 1;
+    /// A difference of a kind that docs/DIFFERENCES.md may list.
+    pub fn differs_as(&mut self, listed: bool, describe: impl FnOnce() -> String) {
+        if listed {
+            self.listed += 1;
+        } else {
+            self.differs(describe);
+        }
     }
     /// Compares one answer.
     pub fn same<T: PartialEq + std::fmt::Debug>(&mut self, rust: T, ours: T, input: impl FnOnce() -> String) {

@@ -151,12 +151,13 @@ fn any_capacity() {
 /// By hand, without the model.
 #[test]
 fn the_most_and_one_more() {
-    let most = Battery { voltage: 120, current: 15, capacity_used: 16_777_215, remaining: 50, id: 0 };
+    assert_eq!(Battery::MAX_CAPACITY, 16_777_215);
+    let most = Battery { voltage: 120, current: 15, capacity_used: Battery::MAX_CAPACITY, remaining: 50, id: 0 };
     let mut buffer = [0xAA; 14];
     assert_eq!(most.write_packet_to_buffer(&mut buffer, 0xC8), Ok(12));
     assert_eq!(buffer[..11], [0xC8, 10, 8, 0, 120, 0, 15, 0xFF, 0xFF, 0xFF, 50]);
     let before = buffer;
-    let more = Battery { capacity_used: 16_777_216, ..most };
+    let more = Battery { capacity_used: Battery::MAX_CAPACITY + 1, ..most };
     for lent in 0..=14 {
         assert_eq!(more.write_packet_to_buffer(&mut buffer[..lent], 0xC8), Err(CrsfParsingError::CapacityRange));
         assert_eq!(more.write_packet_to_buffer(&mut buffer[..lent], 0xC9), Err(CrsfParsingError::BadAddress));
