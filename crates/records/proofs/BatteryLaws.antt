@@ -63,17 +63,14 @@ module _ (x : Battery) where
       (λ none. rw none (length-recordBytes shortLayout (batteryValues x) (lit≤ tt)))
       (λ some. rw some (length-recordBytes batteryLayout (batteryValues x) (lit≤ tt)))
 
-  few-fields : sizeOf (batteryFields (x .id)) ≤ 9
-  few-fields = by-test (eqb (x .id) 0) (λ none. rw none (lit≤ tt)) (λ some. rw some (lit≤ tt))
-
-  some-fields : 8 ≤ sizeOf (batteryFields (x .id))
-  some-fields = by-test (eqb (x .id) 0) (λ none. rw none (lit≤ tt)) (λ some. rw some (lit≤ tt))
+  few-fields : (8 ≤ sizeOf (batteryFields (x .id))) × (sizeOf (batteryFields (x .id)) ≤ 9)
+  few-fields = by-test (eqb (x .id) 0) (λ none. rw none (lit≤ tt, lit≤ tt)) (λ some. rw some (lit≤ tt, lit≤ tt))
 
   pub battery-long : (payload : List ℕ) → batteryImage x ≡ bytes payload → length payload ≡ sizeOf (batteryFields (x .id))
   battery-long payload e = rw (← (written-fits payload e .1)) bytes-long
 
   pub battery-few : (payload : List ℕ) → batteryImage x ≡ bytes payload → (8 ≤ length payload) × (length payload ≤ 9)
-  battery-few payload e = rw (battery-long payload e) (some-fields, few-fields)
+  battery-few payload e = rw (battery-long payload e) few-fields
 
 -- ---- READING AFTER WRITING
 

@@ -12,7 +12,7 @@ use Rattle.refusals.specs.declared.Refusal.{Refusal}
 use Rattle.refusals.specs.declared.Refusal.the-variants.{InvalidSync, InvalidPacketLength, InvalidCrc, InvalidPayloadLength, BufferOverflow, ChannelRange, BadAddress, BadState, InvalidLog, InvalidFrame, CapacityRange}
 use Rattle.refusals.specs.Row.{rowOf, numberOf}
 
--- the refusal that a row is of; of any other row one that it is not of
+-- the refusal that a row is of; of a row that no refusal has, any
 abbrev pub refusalOf : List ℕ → Refusal
 refusalOf row =
     if eqb (getD row 0 0) 1 then InvalidSync (getD row 1 0) else

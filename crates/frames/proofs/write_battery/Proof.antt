@@ -56,7 +56,8 @@ returns-2 c =
     let b = a .buffer .now in
     let starts = sym (start-short (length b) (none .if2 .taken)) in
     addressed-as (a .dest) batteryType (batteryImage (a .packet)) b (good (none .before))
-    (lent-none (a .dest) batteryType b 0 0 starts (omega (arith, starts)) (batteryImage (a .packet)) (made .to-bytes .result) (none .if2 .taken) (battery-small (a .packet)) (made .to-bytes .ensures))
+    (lent-none (a .dest) batteryType b 0 0 starts (omega (arith, starts)) (batteryImage (a .packet)) (made .to-bytes .result)
+    (none .if2 .taken) (battery-small (a .packet)) (made .to-bytes .ensures))
 
 -- ---- eight bytes
 
