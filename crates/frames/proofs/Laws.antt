@@ -52,16 +52,16 @@ abbrev IsBytes : Image → Type 0
 IsBytes (bytes bs) = Unit {0}
 IsBytes (refused r) = ⊥
 
+no-bytes : {r : Refusal} {f : List ℕ} → refused r ≡ bytes f → ⊥
+no-bytes e = subst IsBytes (sym e) tt
+
 pub frame-of : (dest kind : ℕ) (image : Image) (f : List ℕ) → framed dest kind image ≡ bytes f → FrameOf dest kind image f
 unfolding framed framedBody
 frame-of dest kind (bytes p) f e =
     by-test (listed dest)
     (λ t. record { payload = p; is = refl; whole = sym (ap bytesIn (simp t at e)); address = t })
-    (λ t. absurd (subst IsBytes (sym (simp t at e)) tt))
-frame-of dest kind (refused r) f e =
-    by-test (listed dest)
-    (λ t. absurd (subst IsBytes (sym (simp t at e)) tt))
-    (λ t. absurd (subst IsBytes (sym (simp t at e)) tt))
+    (λ t. absurd (no-bytes (simp t at e)))
+frame-of dest kind (refused r) f e = by-test (listed dest) (λ t. absurd (no-bytes (simp t at e))) (λ t. absurd (no-bytes (simp t at e)))
 
 -- ---- THE ORDER OF REFUSALS: the address (7), then the record's own (4, 6, 11), then the room (5); the buffer stays as it was
 
