@@ -6,10 +6,10 @@ use mathlib.Core.Path.{_≡_, refl, sym, ap, _∙_}
 use mathlib.Core.List.{List, _∷_}
 use native.Mathlib.Omega.{arith}
 use lib.Dec.{eqb}
-use lib.ListN.{getD}
+use lib.ListN.{length, getD}
 use Rattle.base.specs.Choice.{if_then_else_}
 use Rattle.refusals.specs.declared.Refusal.{Refusal}
-use Rattle.refusals.specs.declared.Refusal.the-variants.{InvalidSync, InvalidPacketLength, InvalidCrc, InvalidPayloadLength, BufferOverflow, ChannelRange, BadAddress, BadState, InvalidLog, InvalidFrame, CapacityRange}
+use Rattle.refusals.specs.declared.Refusal.the-variants.{InvalidSync, InvalidPacketLength, InvalidCrc, InvalidPayloadLength, BufferOverflow, ChannelRange, SetChannelRange, BadAddress, BadState, InvalidLog, InvalidFrame, CapacityRange}
 use Rattle.refusals.specs.Row.{rowOf, numberOf}
 
 -- the refusal that a row is of; of a row that no refusal has, any
@@ -20,7 +20,7 @@ refusalOf row =
     if eqb (getD row 0 0) 3 then InvalidCrc (getD row 1 0) (getD row 2 0) else
     if eqb (getD row 0 0) 4 then InvalidPayloadLength else
     if eqb (getD row 0 0) 5 then BufferOverflow else
-    if eqb (getD row 0 0) 6 then ChannelRange (getD row 1 0) else
+    if eqb (getD row 0 0) 6 then (if eqb (length row) 3 then SetChannelRange (getD row 1 0) (getD row 2 0) else ChannelRange (getD row 1 0)) else
     if eqb (getD row 0 0) 7 then BadAddress else
     if eqb (getD row 0 0) 8 then BadState else
     if eqb (getD row 0 0) 9 then InvalidLog else
@@ -35,6 +35,7 @@ back (InvalidCrc calculated carried) = refl
 back InvalidPayloadLength = refl
 back BufferOverflow = refl
 back (ChannelRange index) = refl
+back (SetChannelRange set channel) = refl
 back BadAddress = refl
 back BadState = refl
 back InvalidLog = refl
@@ -52,6 +53,7 @@ number-bounds (InvalidCrc calculated carried) = omega arith
 number-bounds InvalidPayloadLength = omega arith
 number-bounds BufferOverflow = omega arith
 number-bounds (ChannelRange index) = omega arith
+number-bounds (SetChannelRange set channel) = omega arith
 number-bounds BadAddress = omega arith
 number-bounds BadState = omega arith
 number-bounds InvalidLog = omega arith

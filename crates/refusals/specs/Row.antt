@@ -4,10 +4,10 @@ use Prim.Native.Nat.{ℕ}
 use mathlib.Core.List.{List, [], _∷_}
 use lib.ListN.{getD}
 use Rattle.refusals.specs.declared.Refusal.{Refusal}
-use Rattle.refusals.specs.declared.Refusal.the-variants.{InvalidSync, InvalidPacketLength, InvalidCrc, InvalidPayloadLength, BufferOverflow, ChannelRange, BadAddress, BadState, InvalidLog, InvalidFrame, CapacityRange}
+use Rattle.refusals.specs.declared.Refusal.the-variants.{InvalidSync, InvalidPacketLength, InvalidCrc, InvalidPayloadLength, BufferOverflow, ChannelRange, SetChannelRange, BadAddress, BadState, InvalidLog, InvalidFrame, CapacityRange}
 use Rattle.refusals.specs.declared.Row.{Row}
 
--- the number, then what is carried
+-- the number, then what is carried. A channel that is too large has one number, whether it stands in one set or in several
 abbrev pub rowOf : Refusal → List ℕ
 rowOf (InvalidSync byte) = 1 ∷ byte ∷ []
 rowOf (InvalidPacketLength length) = 2 ∷ length ∷ []
@@ -15,6 +15,7 @@ rowOf (InvalidCrc calculated carried) = 3 ∷ calculated ∷ carried ∷ []
 rowOf InvalidPayloadLength = 4 ∷ []
 rowOf BufferOverflow = 5 ∷ []
 rowOf (ChannelRange index) = 6 ∷ index ∷ []
+rowOf (SetChannelRange set channel) = 6 ∷ set ∷ channel ∷ []
 rowOf BadAddress = 7 ∷ []
 rowOf BadState = 8 ∷ []
 rowOf InvalidLog = 9 ∷ []

@@ -12,6 +12,8 @@ pub enum Refusal {
     BufferOverflow,
     // The place of the first channel that is too large.
     ChannelRange(usize),
+    // The same of several sets: the first set that has one, and its place there.
+    SetChannelRange { set: usize, channel: usize },
     BadAddress,
     BadState,
     // A log that is none: a malformed number, another first number than 1, an end where none may be, a byte behind the end.
@@ -76,6 +78,11 @@ pub fn row_of(refusal: Refusal) -> Row
             number: 6,
             first: index,
             second: 0,
+        },
+        Refusal::SetChannelRange { set, channel } => Row {
+            number: 6,
+            first: set,
+            second: channel,
         },
         Refusal::BadAddress => Row {
             number: 7,
