@@ -1,10 +1,11 @@
 -- RC channels (RULES 10): sixteen channels of 11 bits in 22 bytes. Channel i is bits 11 i to 11 i + 10 of the payload's little-endian number.
 -- Assumes nothing.
-use mathlib.Core.List.{List, [], _∷_}
-use Prim.Native.Nat.{ℕ, suc}
+use mathlib.Core.List.{List}
+use Prim.Native.Nat.{ℕ}
 use lib.Dec.{ltb}
 use lib.ListN.{length, take, replicate}
 use Rattle.base.specs.Choice.{if_then_else_}
+use Rattle.base.specs.First.{firstWhere}
 use Rattle.refusals.specs.declared.Refusal.the-variants.{InvalidPayloadLength, ChannelRange}
 use Rattle.writing.specs.Writing.{Image, bytes, refused}
 use Rattle.layout.specs.Decoded.{readRow}
@@ -40,9 +41,8 @@ channelsRead payload =
     else (readRow Record, record { 0 = channelsOf (take channelsSize payload) })
 
 -- the place of the first channel that is too large, and the count of channels where there is none
-unfoldable pub firstAbove : List ℕ → ℕ
-firstAbove [] = 0
-firstAbove (c ∷ cs) = if ltb greatest c then 0 else suc (firstAbove cs)
+abbrev pub firstAbove : List ℕ → ℕ
+firstAbove channels = firstWhere (ltb greatest) channels
 
 -- what there is to write: the first channel that is too large is refused, with its place; else the bytes
 unfoldable pub channelsImage : RcChannelsPacked → Image

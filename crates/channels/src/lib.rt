@@ -133,6 +133,14 @@ impl RcChannelsPacked {
         }
     }
 
+    // The place of the first channel above 2047, and 16 where there is none.
+    pub fn first_above(self) -> usize
+        ensures { λ r. ⌜ r ≡ firstAbove (self .0) ⌝ }
+    {
+        let packed = self.0;
+        first_above(&packed)
+    }
+
     pub fn to_bytes(self, buffer: &mut [u8]) -> Written
         ensures { λ r. ⌜ (writtenRow r, now (buffer .exit)) ≡ writeOf (channelsImage self) (now (buffer .entry)) ⌝ }
     {

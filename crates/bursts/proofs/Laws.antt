@@ -1,0 +1,2 @@
+-- Laws of a burst.
+-- Assumes nothing.

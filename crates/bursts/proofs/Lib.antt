@@ -1,0 +1,3 @@
+pub mod Images
+pub mod Turns
+pub mod Laws
