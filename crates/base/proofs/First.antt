@@ -51,3 +51,11 @@ module _ {A : Type 0} (t : A → Bool) (z : A) where
   unfolding firstWhere
   none-found [] h = refl
   none-found (x ∷ xs) h = rw (h 0 (omega arith)) (ap suc (none-found xs (λ i less. h (suc i) (omega (arith, less)))))
+
+  -- so whoever knows which is the first knows what is answered
+  pub first-at : (l : List A) (k : ℕ) → k < length l → ((i : ℕ) → i < k → t (getD l i z) ≡ false) → t (getD l k z) ≡ true → firstWhere t l ≡ k
+  unfolding firstWhere
+  first-at [] k h misses hit = absurd (not-suc-le-zero h)
+  first-at (x ∷ xs) zero h misses hit = rw hit
+  first-at (x ∷ xs) (suc k) h misses hit =
+      rw (misses 0 (omega arith)) (ap suc (first-at xs k (le-of-suc-le-suc h) (λ i less. misses (suc i) (omega (arith, less))) hit))

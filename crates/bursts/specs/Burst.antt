@@ -1,10 +1,10 @@
 -- A burst (RULES 17): the frames of up to eight sets of sixteen channels, one after another, all or nothing.
 -- Assumes nothing.
-use Prim.Native.Nat.{ℕ}
+use Prim.Native.Nat.{ℕ, zero, suc, _*_}
 use mathlib.Core.Bool.{Bool}
 use mathlib.Core.List.{List, [], _∷_, map}
 use lib.Dec.{ltb}
-use lib.ListN.{length, getD, take}
+use lib.ListN.{length, getD, take, drop}
 use Rattle.base.specs.Choice.{if_then_else_}
 use Rattle.base.specs.First.{firstWhere}
 use Rattle.packets.specs.Listed.{listed}
@@ -45,3 +45,18 @@ setsImage dest sets =
 unfoldable pub burstImage : ℕ → List (List ℕ) → ℕ → Image
 burstImage dest sets count =
     if listed dest then (if ltb mostSets count then refused InvalidPayloadLength else setsImage dest (take count sets)) else refused BadAddress
+
+-- ---- The channels of a burst as one list of numbers, set behind set
+
+-- the sets that are counted
+unfoldable pub sixteens : ℕ → List ℕ → List (List ℕ)
+sixteens zero numbers = []
+sixteens (suc n) numbers = take channelsCount numbers ∷ sixteens n (drop channelsCount numbers)
+
+-- too few numbers for them are refused as too many sets are; more are not looked at
+unfoldable pub valuesImage : ℕ → List ℕ → ℕ → Image
+valuesImage dest numbers count =
+    if listed dest then
+    (if ltb mostSets count then refused InvalidPayloadLength else
+    if ltb (length numbers) (count * channelsCount) then refused InvalidPayloadLength else setsImage dest (sixteens count numbers))
+    else refused BadAddress

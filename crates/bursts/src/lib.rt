@@ -1,4 +1,5 @@
 // A burst: RC channels of up to eight sets as frames one after another. All or nothing, and nothing past the last frame.
+use base::copy_u16;
 use channels::RcChannelsPacked;
 use frames::write_rc_channels_packed;
 use packets::is_address;
@@ -6,13 +7,14 @@ use refusals::Refusal;
 use writing::Written;
 ghost use mathlib.Core.Path.{_≡_};
 ghost use mathlib.Core.Bool.{true};
-ghost use Prim.Native.Nat.{_*_, _≤_};
+ghost use Prim.Native.Nat.{_+_, _*_, _≤_};
 ghost use lib.ListN.{length, take};
-ghost use Rattle.base.specs.Parts.{pasted};
+ghost use Rattle.base.specs.Parts.{part, pasted};
 ghost use Rattle.packets.specs.Listed.{listed};
 ghost use Rattle.reading.specs.Frame.{joined};
 ghost use Rattle.writing.specs.Writing.{writtenRow, writeOf};
-ghost use Rattle.bursts.specs.Burst.{mostSets, frameSize, firstBad, setFrames, burstImage};
+ghost use Rattle.channels.specs.Channels.{channelsCount};
+ghost use Rattle.bursts.specs.Burst.{mostSets, frameSize, firstBad, setFrames, burstImage, sixteens, valuesImage};
 
 // The most sets of one burst.
 pub const SETS: usize = 8;
@@ -48,7 +50,11 @@ fn write_sets(buffer: &mut [u8], dest: u8, sets: [[u16; CHANNELS]; SETS], count:
     while k < count {
         let set = sets[k];
         let at = k * FRAME_SIZE;
-        write_rc_channels_packed(&mut buffer[at..at + FRAME_SIZE], dest, RcChannelsPacked(set));
+        write_rc_channels_packed(
+            &mut buffer[at..at + FRAME_SIZE],
+            dest,
+            RcChannelsPacked(set),
+        );
         k += 1;
     }
 }
@@ -80,4 +86,49 @@ pub fn write_rc_channels_burst(
     }
     write_sets(buffer, dest, sets, count);
     Written::Wrote(size)
+}
+
+// The sixteen channels from a place on.
+fn set_at(channels: &[u16], at: usize) -> [u16; CHANNELS]
+    requires { ⌜ at + channelsCount ≤ length (now channels) ⌝ }
+    ensures { λ r. ⌜ r ≡ part (now (channels .entry)) at channelsCount ⌝ }
+{
+    let mut set = [0u16; CHANNELS];
+    copy_u16(&mut set, &channels[at..at + CHANNELS], CHANNELS);
+    set
+}
+
+// The counted sets; those beyond are 0, and nothing looks at them.
+fn sets_of(channels: &[u16], count: usize) -> [[u16; CHANNELS]; SETS]
+    requires { ⌜ (count ≤ mostSets) × (count * channelsCount ≤ length (now channels)) ⌝ }
+    ensures { λ r. ⌜ take count r ≡ sixteens count (now (channels .entry)) ⌝ }
+{
+    let none = [0u16; CHANNELS];
+    let mut sets = [none; SETS];
+    for k in 0..count {
+        sets[k] = set_at(channels, k * CHANNELS);
+    }
+    sets
+}
+
+// The same of channels that stand in one slice, set behind set. Fewer than the count's are refused; more are not looked at.
+pub fn write_rc_channels_burst_values(
+    buffer: &mut [u8],
+    dest: u8,
+    channels: &[u16],
+    count: usize,
+) -> Written
+    ensures { λ r. ⌜ (writtenRow r, now (buffer .exit)) ≡ writeOf (valuesImage dest (now (channels .entry)) count) (now (buffer .entry)) ⌝ }
+{
+    if !is_address(dest) {
+        return Written::Refused(Refusal::BadAddress);
+    }
+    // Before any product: a count may be any number.
+    if count > SETS {
+        return Written::Refused(Refusal::InvalidPayloadLength);
+    }
+    if channels.len() < count * CHANNELS {
+        return Written::Refused(Refusal::InvalidPayloadLength);
+    }
+    write_rc_channels_burst(buffer, dest, sets_of(channels, count), count)
 }

@@ -24,6 +24,7 @@ use Rattle.host.proofs.write.crsf_write_gps.Reads as write-gps
 use Rattle.host.proofs.write.crsf_write_gps_extended.Reads as write-gps-extended
 use Rattle.host.proofs.write.crsf_write_battery.Reads as write-battery
 use Rattle.host.proofs.write.crsf_write_baro_altitude.Reads as write-baro-altitude
+use Rattle.host.proofs.write.crsf_write_rc_channels_burst.Reads as write-rc-channels-burst
 use Rattle.host.proofs.write.crsf_write_rpm.Reads as write-rpm
 use Rattle.host.proofs.write.crsf_write_temp.Reads as write-temp
 use Rattle.host.proofs.write.crsf_write_voltages.Reads as write-voltages
@@ -87,6 +88,9 @@ write-battery-one κs a r r′ s s′ = same
 
 pub write-baro-altitude-one : OneAnswer {Seen = ℕ × List ℕ} write-baro-altitude.Post (λ κs r s. (r, now (s .0)))
 write-baro-altitude-one κs a r r′ s s′ = same
+
+pub write-rc-channels-burst-one : OneAnswer {Seen = ℕ × List ℕ} write-rc-channels-burst.Post (λ κs r s. (r, now (s .0)))
+write-rc-channels-burst-one κs a r r′ s s′ = same
 
 pub write-rpm-one : OneAnswer {Seen = ℕ × List ℕ} write-rpm.Post (λ κs r s. (r, now (s .0)))
 write-rpm-one κs a r r′ s s′ = same

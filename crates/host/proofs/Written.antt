@@ -2,7 +2,7 @@
 -- Assumes nothing.
 use mathlib.Core.Path.{_≡_, refl}
 use mathlib.Core.List.{List}
-use Prim.Native.Nat.{ℕ}
+use Prim.Native.Nat.{ℕ, _<_}
 use native.Mathlib.Omega.{arith}
 use borrow.Author.Tests.{eq-eqb, ne-eqb}
 use lib.ListN.{length}
@@ -14,6 +14,8 @@ use Rattle.writing.specs.Writing.{Image, bytes, refused, writtenRow, writeOf}
 use Rattle.channels.specs.Channels.{channelsCount, channelsImage}
 use Rattle.frames.specs.Frames.{framedBody, framed, Small}
 use Rattle.frames.proofs.Built.{frame-size}
+use Rattle.bursts.specs.Burst.{valuesImage}
+use Rattle.bursts.proofs.Laws.{values-of, burst-long}
 use Rattle.host_answer.specs.Answer.{packed, answerRow, inBytes}
 use Rattle.host_answer.proofs.Fits.{Short, write-fits, answered}
 use Rattle.host.specs.Write.{writes, refusedFor, sixteenImage}
@@ -32,6 +34,15 @@ frame-short dest kind image small = by-test (listed dest) (λ t. simp t (body-sh
 pub frame-answered : (dest kind : ℕ) (image : Image) (buffer : List ℕ) {row after : List ℕ} {r : ℕ} → (row, after) ≡ writeOf (framed dest kind image) buffer
     → Small image → r ≡ packed (inBytes (answerRow row)) → (r, after) ≡ writes dest kind image buffer
 frame-answered dest kind image buffer e small = answered e (write-fits (framed dest kind image) buffer (frame-short dest kind image small))
+
+-- so has a burst: eight frames at most
+short-if : (image : Image) → ((bs : List ℕ) → image ≡ bytes bs → length bs < 256) → Short image
+short-if (bytes bs) sized = sized bs refl
+short-if (refused r) sized = tt
+
+pub burst-short : (dest : ℕ) (numbers : List ℕ) (count : ℕ) → Short (valuesImage dest numbers count)
+burst-short dest numbers count =
+    short-if (valuesImage dest numbers count) (λ bs e. let b = values-of dest numbers count bs e in omega (arith, burst-long b, b .few))
 
 -- ---- Records that are made of a slice
 

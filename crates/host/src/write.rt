@@ -22,6 +22,9 @@ ghost use Rattle.series.specs.Series.{newImage};
 ghost use Rattle.series.specs.Rpm.{rpmType, rpmKind};
 ghost use Rattle.series.specs.Temp.{tempType, tempKind};
 ghost use Rattle.series.specs.Voltages.{voltagesType, voltagesKind};
+ghost use Rattle.writing.specs.Writing.{writeOf};
+ghost use Rattle.bursts.specs.Burst.{valuesImage};
+ghost use Rattle.host_answer.specs.Answer.{answers};
 ghost use Rattle.host.specs.Write.{linkStatisticsFrom, gpsFrom, gpsExtendedFrom, batteryFrom, baroAltitudeFrom};
 ghost use Rattle.host.specs.Write.{writes, refusedFor, sixteenImage};
 
@@ -213,6 +216,19 @@ pub extern "C" fn crsf_write_rc_channels_packed(
         return answer_written(no_record(dest, Refusal::InvalidPayloadLength));
     }
     answer_written(frames::write_rc_channels_packed(buffer, dest, sixteen(channels)))
+}
+
+// A burst: the frames of `count` sets of sixteen channels, which stand in one slice. More than eight sets are refused, and fewer numbers than theirs.
+#[no_mangle]
+pub extern "C" fn crsf_write_rc_channels_burst(
+    buffer: &mut [u8],
+    dest: u8,
+    channels: &[u16],
+    count: usize,
+) -> u64
+    ensures { λ r. ⌜ (r, now (buffer .exit)) ≡ answers (writeOf (valuesImage dest (now (channels .entry)) count) (now (buffer .entry))) ⌝ }
+{
+    answer_written(bursts::write_rc_channels_burst_values(buffer, dest, channels, count))
 }
 
 // No value, and more than 19, are refused.
