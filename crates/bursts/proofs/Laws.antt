@@ -188,8 +188,11 @@ pub values-beyond : (dest : ℕ) (numbers more : List ℕ) (count : ℕ) → cou
     → valuesImage dest (numbers ++ more) count ≡ valuesImage dest numbers count
 unfolding valuesImage
 values-beyond dest numbers more count enough =
-    rw (front-sixteens count numbers more enough, le-ltb (length numbers) (count * channelsCount) enough,
-    le-ltb (length (numbers ++ more)) (count * channelsCount) (omega (arith, length-append numbers more)))
+    rw (
+      front-sixteens count numbers more enough,
+      le-ltb (length numbers) (count * channelsCount) enough,
+      le-ltb (length (numbers ++ more)) (count * channelsCount) (omega (arith, length-append numbers more)),
+    )
 
 -- and a burst of numbers is one of its sets
 pub values-as-sets : (dest : ℕ) (numbers : List ℕ) (count : ℕ) → count * channelsCount ≤ length numbers

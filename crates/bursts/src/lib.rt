@@ -1,5 +1,6 @@
 // A burst: RC channels of up to eight sets as frames one after another. All or nothing, and nothing past the last frame.
 use base::copy_u16;
+use base::narrow;
 use channels::RcChannelsPacked;
 use frames::write_rc_channels_packed;
 use packets::is_address;
@@ -78,7 +79,10 @@ pub fn write_rc_channels_burst(
     if set < count {
         let bad = sets[set];
         let channel = RcChannelsPacked(bad).first_above();
-        return Written::Refused(Refusal::SetChannelRange { set, channel });
+        return Written::Refused(Refusal::SetChannelRange {
+            set: narrow(set),
+            channel: narrow(channel),
+        });
     }
     let size = count * FRAME_SIZE;
     if buffer.len() < size {

@@ -12,8 +12,8 @@ pub enum Refusal {
     BufferOverflow,
     // The place of the first channel that is too large.
     ChannelRange(usize),
-    // The same of several sets: the first set that has one, and its place there.
-    SetChannelRange { set: usize, channel: usize },
+    // The same of several sets: the first set that has one, and its place there. Two bytes: a refusal that is longer makes every writer slower.
+    SetChannelRange { set: u8, channel: u8 },
     BadAddress,
     BadState,
     // A log that is none: a malformed number, another first number than 1, an end where none may be, a byte behind the end.
@@ -79,11 +79,15 @@ pub fn row_of(refusal: Refusal) -> Row
             first: index,
             second: 0,
         },
-        Refusal::SetChannelRange { set, channel } => Row {
-            number: 6,
-            first: set,
-            second: channel,
-        },
+        Refusal::SetChannelRange { set, channel } => {
+            let first = set as usize;
+            let second = channel as usize;
+            Row {
+                number: 6,
+                first,
+                second,
+            }
+        }
         Refusal::BadAddress => Row {
             number: 7,
             first: 0,

@@ -1,14 +1,16 @@
 -- `bursts::write_rc_channels_burst` meets its contract: each test refuses what the image refuses there, and past them all the frames are written.
 -- Assumes nothing.
-use mathlib.Core.Path.{_≡_, sym, ap, _∙_}
+use mathlib.Core.Path.{_≡_, sym, ap, ap₂, _∙_}
 use mathlib.Core.Bool.{true}
 use mathlib.Core.List.{List, []}
 use Prim.Native.Nat.{ℕ, _*_, _≤_, _<_}
+use native.Mathlib.Nat.{mod-eq-of-lt}
 use native.Mathlib.Omega.{arith}
 use borrow.Author.Needs.{needs}
-use borrow.Author.Tests.{not-true, not-false}
+use borrow.Author.Tests.{ltb-true, not-true, not-false}
 use lib.ListN.{length, getD, take}
 use lib.Seq.{length-take-le, getD-take}
+use Rattle.base.proofs.First.{first-found}
 use Rattle.base.proofs.Tests.{not-as}
 use Rattle.packets.specs.Listed.{listed}
 use Rattle.reading.specs.Frame.{joined}
@@ -16,8 +18,8 @@ use Rattle.refusals.specs.declared.Refusal.the-variants.{SetChannelRange}
 use Rattle.writing.specs.Writing.{bytes, writtenRow, writeOf}
 use Rattle.writing.specs.declared.Written.the-variants.{Wrote, Refused}
 use Rattle.writing.proofs.Writing.{writes, overflows, refuses}
-use Rattle.channels.specs.Channels.{firstAbove}
-use Rattle.bursts.specs.Burst.{frameSize, firstBad, setFrames, burstImage}
+use Rattle.channels.specs.Channels.{channelsCount, firstAbove}
+use Rattle.bursts.specs.Burst.{frameSize, bad, firstBad, setFrames, burstImage}
 use Rattle.bursts.proofs.Images.{address-refused, count-refused, counted, sets-refused, sets-bytes}
 use Rattle.bursts.proofs.Turns.{frames-long}
 use Rattle.bursts.proofs.write_rc_channels_burst.Statement.{statement}
@@ -83,21 +85,30 @@ array-copy-out-bad c = search needs
 first-above-requires : tie.Need-first-above-requires
 first-above-requires c κs = search needs
 
+narrow-requires : tie.Need-narrow-requires
+narrow-requires c κs = search needs
+
+narrow-requires-2 : tie.Need-narrow-requires-2
+narrow-requires-2 c κs = search needs
+
 returns-3 : tie.Need-returns-3
 returns-3 c =
-    let found = c .before .before .before in
+    let asked = c .before .before in
+    let found = asked .before .before .before in
     let few = found .before in
     let a = Start-of (few .before) .args in
     let sets = Counted few in
-    let set = found .first-bad .ensures in
-    let channel =
-    c .first-above .ensures
-    ∙ ap firstAbove (sym (getD-take (a .count) (a .t3) (found .first-bad .result) [] (c .before .before .if3 .taken)))
-    ∙ ap (λ (k : ℕ). firstAbove (getD sets k [])) set in
-    rw (counted (a .dest) (a .t3) (a .count) (address (few .before)) (omega arith), sets-refused (a .dest) sets (omega (arith, set, all-there few)))
-    (ap (λ (k : ℕ). (writtenRow (Refused (SetChannelRange k (c .first-above .result))), a .buffer .now)) set
-    ∙ ap (λ (i : ℕ). (writtenRow (Refused (SetChannelRange (firstBad sets) i)), a .buffer .now)) channel
-    ∙ refuses _ (a .buffer .now))
+    let k = found .first-bad .ensures in
+    let i =
+    asked .first-above .ensures
+    ∙ ap firstAbove (sym (getD-take (a .count) (a .t3) (found .first-bad .result) [] (asked .before .before .if3 .taken)))
+    ∙ ap (λ (j : ℕ). firstAbove (getD sets j [])) k in
+    let less : firstBad sets < length sets = omega (arith, k, all-there few) in
+    let place = ltb-true (firstAbove (getD sets (firstBad sets) [])) channelsCount (first-found bad [] sets less) in
+    let set-is : c .before .narrow .result ≡ firstBad sets = c .before .narrow .ensures ∙ mod-eq-of-lt (omega arith) ∙ k in
+    let place-is : c .narrow2 .result ≡ firstAbove (getD sets (firstBad sets) []) = c .narrow2 .ensures ∙ mod-eq-of-lt (omega (arith, i, place)) ∙ i in
+    rw (counted (a .dest) (a .t3) (a .count) (address (few .before)) (omega arith), sets-refused (a .dest) sets less)
+    (ap₂ (λ (x y : ℕ). (writtenRow (Refused (SetChannelRange x y)), a .buffer .now)) set-is place-is ∙ refuses _ (a .buffer .now))
 
 mul-size : tie.Need-mul-size
 mul-size c = search needs
@@ -137,6 +148,8 @@ write-rc-channels-burst-spec =
     mul-bad
     array-copy-out-bad
     first-above-requires
+    narrow-requires
+    narrow-requires-2
     returns-3
     mul-size
     returns-4

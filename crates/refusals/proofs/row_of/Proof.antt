@@ -43,6 +43,12 @@ enum-known-refusal-4 c = search needs
 enum-known-refusal-5 : tie.Need-enum-known-refusal-5
 enum-known-refusal-5 c = search needs
 
+cast-first-4 : tie.Need-cast-first-4
+cast-first-4 c = search needs
+
+cast-second-2 : tie.Need-cast-second-2
+cast-second-2 c = search needs
+
 enum-told-3 : tie.Need-enum-told-3
 enum-told-3 c = search needs
 
@@ -109,6 +115,8 @@ row-of-spec =
     enum-told-2
     enum-known-refusal-4
     enum-known-refusal-5
+    cast-first-4
+    cast-second-2
     enum-told-3
     enum-told-4
     enum-told-5
