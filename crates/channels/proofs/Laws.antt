@@ -1,12 +1,14 @@
 -- Every string of 22 bytes is what one set of channels is written as, so reading after writing and writing after reading change nothing (RULES 10).
 -- Assumes nothing.
-use mathlib.Core.Path.{_≡_, ap, _∙_, subst}
-use mathlib.Core.List.{List, _++_}
+use mathlib.Core.Path.{_≡_, refl, ap, ap₂, _∙_, subst}
+use mathlib.Core.List.{List, [], _∷_, _++_}
 use mathlib.Core.Logic.{⊎-elim}
-use Prim.Native.Nat.{ℕ, _+_, _≤_, _<_}
+use Prim.Native.Nat.{ℕ, suc, _+_, _%_, _^_, _≤_, _<_}
+use native.Mathlib.Nat.{mod-lt, mod-eq-of-lt}
 use native.Mathlib.Omega.{arith}
 use borrow.Author.Tests.{le-ltb, lt-ltb}
-use lib.ListN.{length, length-append}
+use lib.ListN.{length, getD, length-append, List·getD-map}
+use lib.Pow.{pow-pos}
 use lib.Seq.{take-at, take-all}
 use Rattle.base.proofs.Tests.{below}
 use Rattle.base.specs.Bytes.{Bytes}
@@ -15,7 +17,7 @@ use Rattle.writing.specs.Writing.{bytes, refused}
 use Rattle.layout.specs.Decoded.{readRow}
 use Rattle.layout.specs.declared.ReadAnswer.the-variants.{Record}
 use Rattle.channels.specs.Digits.{number, digits, Below}
-use Rattle.channels.specs.Channels.{channelsCount, channelsSize, channelsOf, channelBytes, channelsRead, firstAbove, channelsImage}
+use Rattle.channels.specs.Channels.{channelsCount, channelsSize, channelsOf, channelBytes, lowBits, channelsRead, firstAbove, channelsImage}
 use Rattle.channels.specs.declared.RcChannelsPacked.{RcChannelsPacked}
 use Rattle.channels.proofs.Digits.{there-and-back, length-digits, digits-below}
 use Rattle.channels.proofs.FirstAbove.{none-above, not-above}
@@ -39,6 +41,14 @@ module _ (c : RcChannelsPacked) where
 
   pub channels-length : (payload : List ℕ) → channelsImage c ≡ bytes payload → length payload ≡ channelsSize
   channels-length payload e = rw (← (known payload e .1)) (length-digits 8 channelsSize (number 11 (c .0)))
+
+-- what 11 bits have of channels up to 2047 is these
+pub low-below : (l : List ℕ) → Below 11 (lowBits l)
+low-below l i = rw (List·getD-map (λ (c : ℕ). c % 2 ^ 11) l i 0) (mod-lt (getD l i 0) (pow-pos 11))
+
+pub low-same : (l : List ℕ) → Below 11 l → lowBits l ≡ l
+low-same [] h = refl
+low-same (c ∷ cs) h = ap₂ _∷_ (mod-eq-of-lt (h 0)) (low-same cs (λ i. h (suc i)))
 
 -- sets of channels and 22-byte strings are one to one
 pub channels-back : (channels : List ℕ) → length channels ≡ channelsCount → Below 11 channels → channelsOf (channelBytes channels) ≡ channels

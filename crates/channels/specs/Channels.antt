@@ -1,7 +1,7 @@
 -- RC channels (RULES 10): sixteen channels of 11 bits in 22 bytes. Channel i is bits 11 i to 11 i + 10 of the payload's little-endian number.
 -- Assumes nothing.
-use mathlib.Core.List.{List}
-use Prim.Native.Nat.{ℕ}
+use mathlib.Core.List.{List, map}
+use Prim.Native.Nat.{ℕ, _%_, _^_}
 use lib.Dec.{ltb}
 use lib.ListN.{length, take, replicate}
 use Rattle.base.specs.Choice.{if_then_else_}
@@ -32,6 +32,10 @@ channelsOf payload = digits 11 channelsCount (number 8 payload)
 -- the bytes, little-endian, of the number whose bits 11 i to 11 i + 10 are channel i
 abbrev pub channelBytes : List ℕ → List ℕ
 channelBytes channels = digits 8 channelsSize (number 11 channels)
+
+-- what 11 bits have of each channel: all of it, up to the greatest
+abbrev pub lowBits : List ℕ → List ℕ
+lowBits channels = map (λ c. c % 2 ^ 11) channels
 
 -- reading: what is said, as a row, and the channels beside it. A shorter payload is refused, with every channel 0; bytes behind are ignored
 unfoldable pub channelsRead : List ℕ → List ℕ × RcChannelsPacked

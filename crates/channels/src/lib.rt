@@ -5,11 +5,11 @@ use writing::Written;
 ghost use mathlib.Core.Path.{_≡_};
 ghost use Prim.Native.Nat.{_+_, _≤_, _<_};
 ghost use lib.ListN.{length, getD};
-ghost use Rattle.base.specs.Parts.{part, pasted};
+ghost use Rattle.base.specs.Parts.{part, pasted, placed};
 ghost use Rattle.layout.specs.Decoded.{readRow};
 ghost use Rattle.writing.specs.Writing.{writtenRow, writeOf};
 ghost use Rattle.channels.specs.Digits.{Below};
-ghost use Rattle.channels.specs.Channels.{channelsOf, channelBytes, channelsSize, channelsRead, firstAbove, channelsImage};
+ghost use Rattle.channels.specs.Channels.{channelsOf, channelBytes, channelsSize, channelsRead, lowBits, firstAbove, channelsImage};
 
 const COUNT: usize = 16;
 
@@ -94,6 +94,17 @@ fn put_group(buffer: &mut [u8], channels: &[u16], from: usize)
     }
 }
 
+// What 11 bits have of each channel.
+fn low_bits(channels: [u16; COUNT]) -> [u16; COUNT]
+    ensures { λ r. ⌜ r ≡ lowBits channels ⌝ }
+{
+    let mut low = [0u16; COUNT];
+    for i in 0..COUNT {
+        low[i] = channels[i] % 2048;
+    }
+    low
+}
+
 // The place of the first channel above 2047, and past the last where there is none.
 fn first_above(channels: &[u16]) -> usize
     ensures { λ r. ⌜ r ≡ firstAbove (now (channels .entry)) ⌝ }
@@ -110,6 +121,8 @@ fn first_above(channels: &[u16]) -> usize
 
 impl RcChannelsPacked {
     pub const PACKET_TYPE: u8 = 0x16;
+
+    pub const COUNT: usize = COUNT;
 
     pub const MIN_PAYLOAD_SIZE: usize = 22;
 
@@ -141,6 +154,20 @@ impl RcChannelsPacked {
         first_above(&packed)
     }
 
+    // What 11 bits have of each channel, at the front of a buffer that has room for it; a shorter one is left as it is. For writers, which have
+    // tested both.
+    pub fn put(self, buffer: &mut [u8])
+        ensures { λ _. ⌜ now (buffer .exit) ≡ placed (now (buffer .entry)) 0 (channelBytes (lowBits (self .0))) ⌝ }
+    {
+        if buffer.len() < Self::MIN_PAYLOAD_SIZE {
+            return;
+        }
+        let packed = self.0;
+        let low = low_bits(packed);
+        put_group(buffer, &low, 0);
+        put_group(buffer, &low, 11);
+    }
+
     pub fn to_bytes(self, buffer: &mut [u8]) -> Written
         ensures { λ r. ⌜ (writtenRow r, now (buffer .exit)) ≡ writeOf (channelsImage self) (now (buffer .entry)) ⌝ }
     {
@@ -152,8 +179,7 @@ impl RcChannelsPacked {
         if buffer.len() < Self::MIN_PAYLOAD_SIZE {
             return Written::Refused(Refusal::BufferOverflow);
         }
-        put_group(buffer, &packed, 0);
-        put_group(buffer, &packed, 11);
+        self.put(buffer);
         Written::Wrote(Self::MIN_PAYLOAD_SIZE)
     }
 }

@@ -104,13 +104,14 @@ module _ (pay : List ℕ) (n dest kind : ℕ) (long : length pay ≡ n) where
           ∙ ap (λ (k : ℕ). f ++ drop k b) (sym frame-size)
           ∙ sym (pasted-front b f)
 
-      pub sealed : {b′ after : List ℕ} → b′ ≡ pasted b 3 pay → after ≡ pasted b′ 0 (frame dest (kind ∷ part b′ 3 n))
-          → (writtenRow (Wrote (n + 4)), after) ≡ writeOf (framedBody dest kind (bytes pay)) b
-      unfolding framedBody
-      sealed e sealed-so =
-          let stored =
+      pub stored : {b′ after : List ℕ} → b′ ≡ pasted b 3 pay → after ≡ pasted b′ 0 (frame dest (kind ∷ part b′ 3 n)) → after ≡ pasted b 0 (frame dest (kind ∷ pay))
+      stored e sealed-so =
           sealed-so
           ∙ ap (λ (l : List ℕ). pasted l 0 (frame dest (kind ∷ part l 3 n))) e
           ∙ ap (λ (l : List ℕ). pasted (pasted b 3 pay) 0 (frame dest (kind ∷ l))) there
-          ∙ covered in
-          rw stored (writes (frame dest (kind ∷ pay)) b (n + 4) frame-size room)
+          ∙ covered
+
+      pub sealed : {b′ after : List ℕ} → b′ ≡ pasted b 3 pay → after ≡ pasted b′ 0 (frame dest (kind ∷ part b′ 3 n))
+          → (writtenRow (Wrote (n + 4)), after) ≡ writeOf (framedBody dest kind (bytes pay)) b
+      unfolding framedBody
+      sealed e sealed-so = rw (stored e sealed-so) (writes (frame dest (kind ∷ pay)) b (n + 4) frame-size room)

@@ -14,7 +14,7 @@ ghost use Rattle.reading.specs.Reading.{limit};
 ghost use Rattle.frames.specs.Frames.{overhead, mostPayload, payloadStart, wholeIn, sealedOf};
 
 // Address, length byte and type.
-const HEAD: usize = 3;
+pub(crate) const HEAD: usize = 3;
 
 // The head and the check byte.
 pub(crate) const OVERHEAD: usize = 4;
@@ -38,7 +38,7 @@ fn put_check(buffer: &mut [u8], last: usize)
 }
 
 // The frame of the size bytes that stand in their place already, behind the head's.
-fn seal(buffer: &mut [u8], dest: u8, kind: u8, size: usize)
+pub(crate) fn seal(buffer: &mut [u8], dest: u8, kind: u8, size: usize)
     requires { ⌜ (size ≤ mostPayload) × (size + overhead ≤ length (now buffer)) ⌝ }
     ensures { λ _. ⌜ now (buffer .exit) ≡ pasted (now (buffer .entry)) 0 (frame dest (kind ∷ part (now (buffer .entry)) 3 size)) ⌝ }
 {

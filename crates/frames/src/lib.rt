@@ -5,9 +5,11 @@
 mod frame;
 
 use channels::RcChannelsPacked;
+use frame::HEAD;
 use frame::OVERHEAD;
 use frame::payload_room;
 use frame::payload_start;
+use frame::seal;
 use frame::sealed;
 use packets::is_address;
 use positions::gps::Gps;
@@ -21,18 +23,24 @@ use series::temp::Temp;
 use series::voltages::Voltages;
 use writing::Written;
 ghost use mathlib.Core.Path.{_≡_};
+ghost use mathlib.Core.List.{_∷_};
+ghost use Rattle.base.specs.Parts.{placed};
+ghost use Rattle.reading.specs.Frame.{frame};
 ghost use Rattle.writing.specs.Writing.{writtenRow, writeOf};
 ghost use Rattle.records.specs.LinkStatistics.{linkStatisticsType, linkStatisticsImage};
 ghost use Rattle.positions.specs.Gps.{gpsType, gpsImage};
 ghost use Rattle.positions.specs.GpsExtended.{gpsExtendedType, gpsExtendedImage};
 ghost use Rattle.records.specs.Battery.{batteryType, batteryImage};
 ghost use Rattle.records.specs.BaroAltitude.{baroAltitudeType, baroAltitudeImage};
-ghost use Rattle.channels.specs.Channels.{channelsType, channelsImage};
+ghost use Rattle.channels.specs.Channels.{channelsType, channelBytes, lowBits, channelsImage};
 ghost use Rattle.series.specs.Series.{newImage};
 ghost use Rattle.series.specs.Rpm.{rpmType, rpmKind, rpmImage};
 ghost use Rattle.series.specs.Temp.{tempType, tempKind, tempImage};
 ghost use Rattle.series.specs.Voltages.{voltagesType, voltagesKind, voltagesImage};
 ghost use Rattle.frames.specs.Frames.{framed};
+
+// A frame of channels: 26 bytes.
+pub const CHANNELS_FRAME: usize = RcChannelsPacked::MIN_PAYLOAD_SIZE + OVERHEAD;
 
 pub fn write_link_statistics(buffer: &mut [u8], dest: u8, packet: LinkStatistics) -> Written
     ensures { λ r. ⌜ (writtenRow r, now (buffer .exit)) ≡ writeOf (framed dest linkStatisticsType (linkStatisticsImage packet)) (now (buffer .entry)) ⌝ }
@@ -46,16 +54,39 @@ pub fn write_link_statistics(buffer: &mut [u8], dest: u8, packet: LinkStatistics
     sealed(buffer, dest, LinkStatistics::PACKET_TYPE, written)
 }
 
+// The frame of what 11 bits have of each channel, to any byte, at the front of a buffer that has room for it; a shorter one is left as it is. For writers,
+// which have tested all three. It stays a call, that of a single frame and of each frame of a burst: in it the compiler knows every place, and
+// takes the bytes to be checked from registers.
+pub fn put_rc_channels(buffer: &mut [u8], dest: u8, packet: RcChannelsPacked)
+    ensures { λ _. ⌜ now (buffer .exit) ≡ placed (now (buffer .entry)) 0 (frame dest (channelsType ∷ channelBytes (lowBits (packet .0)))) ⌝ }
+{
+    if buffer.len() < CHANNELS_FRAME {
+        return;
+    }
+    packet.put(&mut buffer[HEAD..CHANNELS_FRAME - 1]);
+    seal(
+        buffer,
+        dest,
+        RcChannelsPacked::PACKET_TYPE,
+        RcChannelsPacked::MIN_PAYLOAD_SIZE,
+    );
+}
+
 pub fn write_rc_channels_packed(buffer: &mut [u8], dest: u8, packet: RcChannelsPacked) -> Written
     ensures { λ r. ⌜ (writtenRow r, now (buffer .exit)) ≡ writeOf (framed dest channelsType (channelsImage packet)) (now (buffer .entry)) ⌝ }
 {
     if !is_address(dest) {
         return Written::Refused(Refusal::BadAddress);
     }
-    let from = payload_start(buffer.len());
-    let to = from + payload_room(buffer.len());
-    let written = packet.to_bytes(&mut buffer[from..to]);
-    sealed(buffer, dest, RcChannelsPacked::PACKET_TYPE, written)
+    let bad = packet.first_above();
+    if bad < RcChannelsPacked::COUNT {
+        return Written::Refused(Refusal::ChannelRange(bad));
+    }
+    if buffer.len() < CHANNELS_FRAME {
+        return Written::Refused(Refusal::BufferOverflow);
+    }
+    put_rc_channels(buffer, dest, packet);
+    Written::Wrote(CHANNELS_FRAME)
 }
 
 pub fn write_gps(buffer: &mut [u8], dest: u8, packet: Gps) -> Written
