@@ -35,7 +35,7 @@ use Rattle.frames.proofs.Laws.{written-valid}
 use Rattle.bursts.specs.Burst.{mostSets, frameSize, setFrame, setFrames, bad, firstBad, setsImage, burstImage, sixteens, valuesImage}
 use Rattle.bursts.proofs.Images.{sets-refused, sets-bytes, address-refused, count-refused, counted}
 use Rattle.bursts.proofs.Turns.{frames-long, joined-next, single}
-use Rattle.bursts.proofs.Sixteens.{length-sixteens, values-address, values-count, values-short, values-sets}
+use Rattle.bursts.proofs.Sixteens.{length-sixteens, take-sixteens, front-sixteens, values-address, values-count, values-short, values-sets}
 
 -- ---- bytes of a burst: of these sets, to this address
 
@@ -174,15 +174,6 @@ pub beyond : (dest : ℕ) (sets others : List (List ℕ)) (count : ℕ) → take
 unfolding burstImage
 beyond dest sets others count same = rw same
 
-front-sixteens : (n : ℕ) (numbers more : List ℕ) → n * channelsCount ≤ length numbers → sixteens n (numbers ++ more) ≡ sixteens n numbers
-unfolding sixteens
-front-sixteens zero numbers more enough = refl
-front-sixteens (suc n) numbers more enough =
-    let first : channelsCount ≤ length numbers = omega (arith, suc-mul n channelsCount) in
-    ap₂ (λ (x : List ℕ) (l : List (List ℕ)). x ∷ l) (take-append-le channelsCount numbers more first)
-    (ap (sixteens n) (drop-append-le channelsCount numbers more first)
-    ∙ front-sixteens n (drop channelsCount numbers) more (omega (arith, suc-mul n channelsCount, length-drop channelsCount numbers)))
-
 -- numbers beyond those of the counted sets
 pub values-beyond : (dest : ℕ) (numbers more : List ℕ) (count : ℕ) → count * channelsCount ≤ length numbers
     → valuesImage dest (numbers ++ more) count ≡ valuesImage dest numbers count
@@ -200,6 +191,21 @@ pub values-as-sets : (dest : ℕ) (numbers : List ℕ) (count : ℕ) → count *
 unfolding valuesImage burstImage
 values-as-sets dest numbers count enough =
     rw (le-ltb (length numbers) (count * channelsCount) enough, take-all count (sixteens count numbers) (omega (arith, length-sixteens count numbers)))
+
+-- so is one of sets that stand one behind another in all the numbers there are
+pub flat-burst : (dest : ℕ) (numbers : List ℕ) (sets : List (List ℕ)) (count : ℕ) → length numbers ≡ mostSets * channelsCount → sixteens mostSets numbers ≡ sets
+    → valuesImage dest numbers count ≡ burstImage dest sets count
+flat-burst dest numbers sets count size is =
+    by-test (listed dest)
+    (λ address.
+    ⊎-elim
+    (λ (more : mostSets < count). values-count dest numbers count address more ∙ sym (count-refused dest sets count address more))
+    (λ (few : count ≤ mostSets).
+    values-sets dest numbers count address few (omega (arith, size, few))
+    ∙ ap (setsImage dest) (sym (take-sixteens count mostSets numbers few) ∙ ap (take count) is)
+    ∙ sym (counted dest sets count address few))
+    (below mostSets count))
+    (λ none. values-address dest numbers count none ∙ sym (address-refused dest sets count none))
 
 -- ---- a refused burst changes no byte
 

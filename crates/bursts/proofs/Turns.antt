@@ -9,18 +9,16 @@ use native.Mathlib.Numerals.{add-one}
 use native.Mathlib.Omega.{arith}
 use lib.ListN.{length, getD, take, drop, length-append, length-drop}
 use lib.Seq.{length-take-le, take-suc}
-use Rattle.base.specs.Parts.{pasted}
-use Rattle.base.proofs.Parts.{pasted-append, length-pasted, cutOut, around, put-there}
+use Rattle.base.specs.Parts.{pasted, placed}
+use Rattle.base.proofs.Parts.{pasted-append, length-pasted, placed-fits, cutOut, around, put-there}
 use Rattle.packets.specs.Listed.{listed}
 use Rattle.reading.specs.Frame.{joined}
-use Rattle.writing.specs.Writing.{bytes, writtenRow, writeOf}
-use Rattle.writing.specs.declared.Written.{Written}
-use Rattle.writing.proofs.Writing.{writes}
-use Rattle.writing.proofs.Rows.{one-write}
+use Rattle.writing.specs.Writing.{bytes}
 use Rattle.channels.specs.Digits.{number}
-use Rattle.channels.specs.Channels.{channelsType, channelsCount, channelsSize, channelBytes, firstAbove, channelsImage}
+use Rattle.channels.specs.Channels.{channelsType, channelsCount, channelsSize, channelBytes, lowBits, firstAbove, channelsImage}
 use Rattle.channels.proofs.Digits.{length-digits}
-use Rattle.channels.proofs.Laws.{image-bytes}
+use Rattle.channels.proofs.FirstAbove.{none-above}
+use Rattle.channels.proofs.Laws.{image-bytes, low-same}
 use Rattle.frames.specs.Frames.{framed, framedBody}
 use Rattle.frames.proofs.Built.{frame-size}
 use Rattle.bursts.specs.Burst.{frameSize, setFrame, setFrames}
@@ -59,19 +57,19 @@ pub single : (dest : ℕ) (set : List ℕ) → listed dest ≡ true → channels
 unfolding framed framedBody
 single dest set address good = rw (address, image-bytes (record { 0 = set }) good)
 
--- it is lent the next 26 places, and leaves its frame there
-pub written-there : (dest : ℕ) (set buffer : List ℕ) (at : ℕ) (w : Written) {ys : List ℕ} → listed dest ≡ true → channelsCount ≤ firstAbove set
+-- it is lent what is left of the buffer, and leaves its frame at the front of that
+pub put-next : (dest : ℕ) (set buffer : List ℕ) (at : ℕ) {ys : List ℕ} → length set ≡ channelsCount → channelsCount ≤ firstAbove set
     → at + frameSize ≤ length buffer
-    → (writtenRow w, ys) ≡ writeOf (framed dest channelsType (channelsImage (record { 0 = set }))) (cutOut buffer at (at + frameSize))
-    → around buffer at (at + frameSize) ys ≡ pasted buffer at (setFrame dest set)
-written-there dest set buffer at w {ys} address good room e =
-    let lent : List ℕ = cutOut buffer at (at + frameSize) in
-    let places : length lent ≡ frameSize = length-take-le (at + frameSize - at) (drop at buffer) (omega (arith, length-drop at buffer)) ∙ omega arith in
-    let stored =
-    one-write (rw (single dest set address good) at e)
-    (writes (setFrame dest set) lent frameSize (frame-long dest set) (omega arith)) in
-    ap (λ (x : Written × List ℕ). around buffer at (at + frameSize) (x .1)) stored
-    ∙ put-there buffer at (at + frameSize) (setFrame dest set) (omega (arith, frame-long dest set))
+    → ys ≡ placed (cutOut buffer at (length buffer)) 0 (setFrame dest (lowBits set))
+    → around buffer at (length buffer) ys ≡ pasted buffer at (setFrame dest set)
+put-next dest set buffer at {ys} sixteen good room e =
+    let lent : List ℕ = cutOut buffer at (length buffer) in
+    let places : length lent ≡ length buffer - at = length-take-le (length buffer - at) (drop at buffer) (omega (arith, length-drop at buffer)) in
+    let size = frame-long dest set in
+    ap (around buffer at (length buffer))
+    (e ∙ ap (λ (l : List ℕ). placed lent 0 (setFrame dest l)) (low-same set (none-above set (omega (arith, sixteen, good))))
+    ∙ placed-fits lent 0 (setFrame dest set) (omega (arith, places, size)))
+    ∙ put-there buffer at (length buffer) (setFrame dest set) (omega (arith, places, size))
 
 -- the frames of the first k sets, at the front of a buffer, and the next one behind them
 module _ (dest : ℕ) (sets : List (List ℕ)) (buffer : List ℕ) where

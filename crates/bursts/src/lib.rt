@@ -2,16 +2,15 @@
 use base::copy_u16;
 use base::narrow;
 use channels::RcChannelsPacked;
-use frames::write_rc_channels_packed;
+use frames::CHANNELS_FRAME;
+use frames::put_rc_channels;
 use packets::is_address;
 use refusals::Refusal;
 use writing::Written;
 ghost use mathlib.Core.Path.{_≡_};
-ghost use mathlib.Core.Bool.{true};
 ghost use Prim.Native.Nat.{_+_, _*_, _≤_};
-ghost use lib.ListN.{length, take};
+ghost use lib.ListN.{length};
 ghost use Rattle.base.specs.Parts.{part, pasted};
-ghost use Rattle.packets.specs.Listed.{listed};
 ghost use Rattle.reading.specs.Frame.{joined};
 ghost use Rattle.writing.specs.Writing.{writtenRow, writeOf};
 ghost use Rattle.channels.specs.Channels.{channelsCount};
@@ -20,20 +19,29 @@ ghost use Rattle.bursts.specs.Burst.{mostSets, frameSize, firstBad, setF
 // The most sets of one burst.
 pub const SETS: usize = 8;
 
-const CHANNELS: usize = 16;
+const CHANNELS: usize = RcChannelsPacked::COUNT;
 
-// Head, payload and check byte.
-const FRAME_SIZE: usize = 26;
+// The channels of so many sets.
+const ALL: usize = SETS * CHANNELS;
+
+// The set that begins at a place.
+fn set_at(channels: &[u16], at: usize) -> RcChannelsPacked
+    requires { ⌜ at + channelsCount ≤ length (now channels) ⌝ }
+    ensures { λ r. ⌜ r ≡ record { 0 = part (now (channels .entry)) at channelsCount } ⌝ }
+{
+    let mut set = [0u16; CHANNELS];
+    copy_u16(&mut set, &channels[at..at + CHANNELS], CHANNELS);
+    RcChannelsPacked(set)
+}
 
 // The place of the first counted set with a channel above 2047, and the count where there is none.
-fn first_bad(sets: [[u16; CHANNELS]; SETS], count: usize) -> usize
-    requires { ⌜ count ≤ mostSets ⌝ }
-    ensures { λ r. ⌜ r ≡ firstBad (take count sets) ⌝ }
+fn first_bad(channels: &[u16], count: usize) -> usize
+    requires { ⌜ (count ≤ mostSets) × (count * channelsCount ≤ length (now channels)) ⌝ }
+    ensures { λ r. ⌜ r ≡ firstBad (sixteens count (now (channels .entry))) ⌝ }
 {
     let mut k = 0;
     while k < count {
-        let set = sets[k];
-        if RcChannelsPacked(set).first_above() < CHANNELS {
+        if set_at(channels, k * CHANNELS).first_above() < CHANNELS {
             return k;
         }
         k += 1;
@@ -41,81 +49,22 @@ fn first_bad(sets: [[u16; CHANNELS]; SETS], count: usize) -> usize
     k
 }
 
-// The counted sets, each in its place by a write of its own.
-fn write_sets(buffer: &mut [u8], dest: u8, sets: [[u16; CHANNELS]; SETS], count: usize)
-    requires { ⌜ (count ≤ mostSets) × (count * frameSize ≤ length (now buffer)) ⌝ }
-    requires { ⌜ (listed dest ≡ true) × (count ≤ firstBad (take count sets)) ⌝ }
-    ensures { λ _. ⌜ now (buffer .exit) ≡ pasted (now (buffer .entry)) 0 (joined (setFrames dest (take count sets))) ⌝ }
+// The frames of the counted sets, each in its place.
+fn put_sets(buffer: &mut [u8], dest: u8, channels: &[u16], count: usize)
+    requires { ⌜ (count ≤ mostSets) × (count * channelsCount ≤ length (now channels)) ⌝ }
+    requires { ⌜ (count * frameSize ≤ length (now buffer)) × (count ≤ firstBad (sixteens count (now channels))) ⌝ }
+    ensures { λ _. ⌜ now (buffer .exit) ≡ pasted (now (buffer .entry)) 0 (joined (setFrames dest (sixteens count (now (channels .entry))))) ⌝ }
 {
     let mut k = 0;
     while k < count {
-        let set = sets[k];
-        let at = k * FRAME_SIZE;
-        write_rc_channels_packed(
-            &mut buffer[at..at + FRAME_SIZE],
-            dest,
-            RcChannelsPacked(set),
-        );
+        let at = k * CHANNELS_FRAME;
+        put_rc_channels(&mut buffer[at..], dest, set_at(channels, k * CHANNELS));
         k += 1;
     }
 }
 
-// Sets beyond the count are not looked at. Every channel of the others is tested before a byte is written.
-pub fn write_rc_channels_burst(
-    buffer: &mut [u8],
-    dest: u8,
-    sets: [[u16; CHANNELS]; SETS],
-    count: usize,
-) -> Written
-    ensures { λ r. ⌜ (writtenRow r, now (buffer .exit)) ≡ writeOf (burstImage dest sets count) (now (buffer .entry)) ⌝ }
-{
-    if !is_address(dest) {
-        return Written::Refused(Refusal::BadAddress);
-    }
-    if count > SETS {
-        return Written::Refused(Refusal::InvalidPayloadLength);
-    }
-    let set = first_bad(sets, count);
-    if set < count {
-        let bad = sets[set];
-        let channel = RcChannelsPacked(bad).first_above();
-        return Written::Refused(Refusal::SetChannelRange {
-            set: narrow(set),
-            channel: narrow(channel),
-        });
-    }
-    let size = count * FRAME_SIZE;
-    if buffer.len() < size {
-        return Written::Refused(Refusal::BufferOverflow);
-    }
-    write_sets(buffer, dest, sets, count);
-    Written::Wrote(size)
-}
-
-// The sixteen channels from a place on.
-fn set_at(channels: &[u16], at: usize) -> [u16; CHANNELS]
-    requires { ⌜ at + channelsCount ≤ length (now channels) ⌝ }
-    ensures { λ r. ⌜ r ≡ part (now (channels .entry)) at channelsCount ⌝ }
-{
-    let mut set = [0u16; CHANNELS];
-    copy_u16(&mut set, &channels[at..at + CHANNELS], CHANNELS);
-    set
-}
-
-// The counted sets; those beyond are 0, and nothing looks at them.
-fn sets_of(channels: &[u16], count: usize) -> [[u16; CHANNELS]; SETS]
-    requires { ⌜ (count ≤ mostSets) × (count * channelsCount ≤ length (now channels)) ⌝ }
-    ensures { λ r. ⌜ take count r ≡ sixteens count (now (channels .entry)) ⌝ }
-{
-    let none = [0u16; CHANNELS];
-    let mut sets = [none; SETS];
-    for k in 0..count {
-        sets[k] = set_at(channels, k * CHANNELS);
-    }
-    sets
-}
-
-// The same of channels that stand in one slice, set behind set. Fewer than the count's are refused; more are not looked at.
+// The channels stand in one slice, set behind set. Every one of the counted sets is tested before a byte is written; what stands behind them is not
+// looked at.
 pub fn write_rc_channels_burst_values(
     buffer: &mut [u8],
     dest: u8,
@@ -134,5 +83,52 @@ pub fn write_rc_channels_burst_values(
     if channels.len() < count * CHANNELS {
         return Written::Refused(Refusal::InvalidPayloadLength);
     }
-    write_rc_channels_burst(buffer, dest, sets_of(channels, count), count)
+    let set = first_bad(channels, count);
+    if set < count {
+        let channel = set_at(channels, set * CHANNELS).first_above();
+        return Written::Refused(Refusal::SetChannelRange {
+            set: narrow(set),
+            channel: narrow(channel),
+        });
+    }
+    let size = count * CHANNELS_FRAME;
+    if buffer.len() < size {
+        return Written::Refused(Refusal::BufferOverflow);
+    }
+    put_sets(buffer, dest, channels, count);
+    Written::Wrote(size)
+}
+
+// A set in its place.
+fn put_set(numbers: &mut [u16], at: usize, set: RcChannelsPacked)
+    requires { ⌜ at + channelsCount ≤ length (now numbers) ⌝ }
+    ensures { λ _. ⌜ (now (numbers .exit) ≡ pasted (now (numbers .entry)) at (set .0)) × (length (set .0) ≡ channelsCount) ⌝ }
+{
+    let channels = set.0;
+    copy_u16(&mut numbers[at..at + CHANNELS], &channels, CHANNELS);
+}
+
+// The sets one behind another.
+fn flat(sets: [[u16; CHANNELS]; SETS]) -> [u16; ALL]
+    ensures { λ r. ⌜ sixteens mostSets r ≡ sets ⌝ }
+{
+    let mut numbers = [0u16; ALL];
+    for k in 0..SETS {
+        let set = sets[k];
+        put_set(&mut numbers, k * CHANNELS, RcChannelsPacked(set));
+    }
+    numbers
+}
+
+// The same of sets by value. Those beyond the count are not looked at.
+pub fn write_rc_channels_burst(
+    buffer: &mut [u8],
+    dest: u8,
+    sets: [[u16; CHANNELS]; SETS],
+    count: usize,
+) -> Written
+    ensures { λ r. ⌜ (writtenRow r, now (buffer .exit)) ≡ writeOf (burstImage dest sets count) (now (buffer .entry)) ⌝ }
+{
+    let numbers = flat(sets);
+    write_rc_channels_burst_values(buffer, dest, &numbers, count)
 }

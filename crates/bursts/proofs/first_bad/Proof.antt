@@ -7,50 +7,51 @@ use native.Mathlib.Numerals.{add-one}
 use native.Mathlib.Omega.{arith}
 use borrow.Author.Needs.{needs}
 use borrow.Author.Tests.{le-ltb, lt-ltb}
-use lib.ListN.{length, getD, take, drop, drop-of-length-le}
-use lib.Seq.{length-take-le, getD-take}
+use lib.ListN.{length, getD, drop, drop-of-length-le}
 use Rattle.base.specs.First.{firstWhere}
 use Rattle.base.proofs.First.{found, passed}
 use Rattle.channels.specs.Channels.{channelsCount, firstAbove}
-use Rattle.bursts.specs.Burst.{bad, firstBad}
+use Rattle.channels.specs.declared.RcChannelsPacked.{RcChannelsPacked}
+use Rattle.bursts.specs.Burst.{bad, firstBad, sixteens}
+use Rattle.bursts.proofs.Sixteens.{length-sixteens, sixteens-at}
 use Rattle.bursts.proofs.first_bad.Statement.{statement}
 use Rattle.bursts.proofs.first_bad.Tie as tie
 
 abbrev Inv-loop : tie.InvT-loop
-Inv-loop count sets k₀ k = (k ≤ count) × (firstBad (take count sets) ≡ k + firstBad (drop k (take count sets)))
+Inv-loop channels count k₀ k = (k ≤ count) × (firstBad (sixteens count channels) ≡ k + firstBad (drop k (sixteens count channels)))
 
 abbrev μ-loop : tie.MeasureT-loop
-μ-loop count sets k₀ k = count - k
+μ-loop channels count k₀ k = count - k
 
 loop-holds : tie.Need-loop-holds Inv-loop μ-loop
 loop-holds c = omega arith
 
-mul-set : tie.Need-mul-set Inv-loop μ-loop
-mul-set c = search needs
+mul-set-at : tie.Need-mul-set-at Inv-loop μ-loop
+mul-set-at c = search needs
 
-array-copy-out-set : tie.Need-array-copy-out-set Inv-loop μ-loop
-array-copy-out-set c = search needs
+set-at-requires : tie.Need-set-at-requires Inv-loop μ-loop
+set-at-requires c κs = search needs
 
 first-above-requires : tie.Need-first-above-requires Inv-loop μ-loop
 first-above-requires c κs = search needs
 
 -- the sets that count
 abbrev Counted : tie.At-loop Inv-loop μ-loop → List (List ℕ)
-Counted c = take (c .before .args .count) (c .before .args .t1)
+Counted c = sixteens (c .before .before .args .count) (c .before .before .args .channels .now)
 
-all-there : (c : tie.At-loop Inv-loop μ-loop) → length (Counted c) ≡ c .before .args .count
-all-there c =
-    let start = c .before in
-    let eight : length (start .args .t1) ≡ 8 = search needs in
-    length-take-le (start .args .count) (start .args .t1) (omega arith)
+all-there : (c : tie.At-loop Inv-loop μ-loop) → length (Counted c) ≡ c .before .before .args .count
+all-there c = length-sixteens (c .before .before .args .count) (c .before .before .args .channels .now)
 
 -- the call speaks of the set at k
 asked : (c : tie.After-first-above Inv-loop μ-loop)
     → c .first-above .result ≡ firstAbove (getD (Counted (c .before .before .before)) (c .before .before .before .loop .k) [])
 asked c =
-    let at-loop = c .before .before .before in
+    let in-loop = c .before .before in
+    let at-loop = in-loop .before in
+    let a = at-loop .before .before .args in
     c .first-above .ensures
-    ∙ ap firstAbove (sym (getD-take (at-loop .before .args .count) (at-loop .before .args .t1) (at-loop .loop .k) [] (c .before .before .loop-test .taken)))
+    ∙ ap (λ (set : RcChannelsPacked). firstAbove (set .0)) (c .before .set-at .ensures)
+    ∙ ap firstAbove (sym (sixteens-at (a .count) (a .channels .now) (at-loop .loop .k) (in-loop .loop-test .taken)))
 
 returns : tie.Need-returns Inv-loop μ-loop
 returns c =
@@ -92,8 +93,8 @@ first-bad-spec =
     Inv-loop
     μ-loop
     loop-holds
-    mul-set
-    array-copy-out-set
+    mul-set-at
+    set-at-requires
     first-above-requires
     returns
     add-k

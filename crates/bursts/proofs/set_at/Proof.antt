@@ -40,12 +40,13 @@ returns c =
     let s : List ℕ = take (a .at + channelsCount - a .at) (drop (a .at) (a .channels .now)) in
     let width : a .at + channelsCount - a .at ≡ channelsCount = omega arith in
     let long : length s ≡ channelsCount = length-take-le _ (drop (a .at) (a .channels .now)) (omega (arith, length-drop (a .at) (a .channels .now))) ∙ width in
-    c .before .copy-u16 .ensures
+    ap (λ (l : List ℕ). record { 0 = l })
+    (c .before .copy-u16 .ensures
     ∙ ap (copied (replicate channelsCount 0) 0 s) (sym long)
     ∙ copied-all (replicate channelsCount 0) s (omega arith)
     ∙ ap (λ (n : ℕ). s ++ drop n (replicate channelsCount 0)) long
     ∙ append-nil s
-    ∙ ap (λ (n : ℕ). take n (drop (a .at) (a .channels .now))) width
+    ∙ ap (λ (n : ℕ). take n (drop (a .at) (a .channels .now))) width)
 
 pub set-at-spec : {M : Type 1} → statement M
 set-at-spec =

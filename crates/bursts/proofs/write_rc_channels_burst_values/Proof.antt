@@ -1,19 +1,28 @@
--- `bursts::write_rc_channels_burst_values` meets its contract: past its tests there are the sets of a burst.
+-- `bursts::write_rc_channels_burst_values` meets its contract: each test refuses what the image refuses there, and past them all the frames are written.
 -- Assumes nothing.
-use mathlib.Core.Path.{_≡_, sym, ap, _∙_}
+use mathlib.Core.Path.{_≡_, sym, ap, ap₂, _∙_}
 use mathlib.Core.Bool.{true}
-use mathlib.Core.List.{List}
+use mathlib.Core.List.{List, []}
 use Prim.Native.Nat.{ℕ, _*_, _≤_, _<_}
+use native.Mathlib.Nat.{mod-eq-of-lt}
 use native.Mathlib.Omega.{arith}
 use borrow.Author.Needs.{needs}
-use borrow.Author.Tests.{not-true, not-false}
+use borrow.Author.Tests.{ltb-true, not-true, not-false}
+use lib.ListN.{length, getD}
+use Rattle.base.proofs.First.{first-found}
 use Rattle.base.proofs.Tests.{not-as}
 use Rattle.packets.specs.Listed.{listed}
-use Rattle.writing.specs.Writing.{Image, writeOf}
-use Rattle.writing.proofs.Writing.{refuses}
-use Rattle.bursts.specs.Burst.{setsImage}
-use Rattle.bursts.proofs.Images.{counted}
-use Rattle.bursts.proofs.Sixteens.{values-address, values-count, values-short, values-sets}
+use Rattle.reading.specs.Frame.{joined}
+use Rattle.refusals.specs.declared.Refusal.the-variants.{SetChannelRange}
+use Rattle.writing.specs.Writing.{bytes, writtenRow}
+use Rattle.writing.specs.declared.Written.the-variants.{Wrote, Refused}
+use Rattle.writing.proofs.Writing.{writes, overflows, refuses}
+use Rattle.channels.specs.Channels.{channelsCount, firstAbove}
+use Rattle.channels.specs.declared.RcChannelsPacked.{RcChannelsPacked}
+use Rattle.bursts.specs.Burst.{frameSize, bad, firstBad, setFrames, setsImage, sixteens, valuesImage}
+use Rattle.bursts.proofs.Images.{sets-refused, sets-bytes}
+use Rattle.bursts.proofs.Sixteens.{length-sixteens, sixteens-at, values-address, values-count, values-short, values-sets}
+use Rattle.bursts.proofs.Turns.{frames-long}
 use Rattle.bursts.proofs.write_rc_channels_burst_values.Statement.{statement}
 use Rattle.bursts.proofs.write_rc_channels_burst_values.Tie as tie
 
@@ -22,6 +31,37 @@ Start-of c = c .before .before .before .before
 
 address : (c : tie.Else1) → listed (Start-of c .args .dest) ≡ true
 address c = not-false (listed (Start-of c .args .dest)) (not-as (c .before .is-address .ensures) (c .if1 .left))
+
+-- past the tests of the count there are these sets
+abbrev Begin : tie.Else3 → tie.Start
+Begin c = Start-of (c .before .before)
+
+abbrev Counted : tie.Else3 → List (List ℕ)
+Counted c = sixteens (Begin c .args .count) (Begin c .args .channels .now)
+
+all-there : (c : tie.Else3) → length (Counted c) ≡ Begin c .args .count
+all-there c = length-sixteens (Begin c .args .count) (Begin c .args .channels .now)
+
+image-is : (c : tie.Else3) → (let a = Begin c .args in valuesImage (a .dest) (a .channels .now) (a .count) ≡ setsImage (a .dest) (Counted c))
+image-is c =
+    let a = Begin c .args in
+    values-sets (a .dest) (a .channels .now) (a .count) (address (c .before .before)) (omega (arith, c .before .if2 .left)) (c .if3 .left)
+
+-- no set of them is bad, so there are frames to write
+good : (c : tie.Else4) → length (Counted (c .before .before)) ≤ firstBad (Counted (c .before .before))
+good c = omega (arith, all-there (c .before .before), c .before .first-bad .ensures, c .if4 .left)
+
+image : (c : tie.Else4)
+    → (let a = Begin (c .before .before) .args in valuesImage (a .dest) (a .channels .now) (a .count) ≡ bytes (joined (setFrames (a .dest) (Counted (c .before .before)))))
+image c =
+    let enough = c .before .before in
+    image-is enough ∙ sets-bytes (Begin enough .args .dest) (Counted enough) (good c)
+
+long : (c : tie.Else4)
+    → (let a = Begin (c .before .before) .args in length (joined (setFrames (a .dest) (Counted (c .before .before)))) ≡ a .count * frameSize)
+long c =
+    let enough = c .before .before in
+    frames-long (Begin enough .args .dest) (Counted enough) ∙ ap (λ (n : ℕ). n * frameSize) (all-there enough)
 
 is-address-requires : tie.Need-is-address-requires
 is-address-requires c κs = search needs
@@ -46,28 +86,74 @@ returns-3 c =
     let a = Start-of (few .before) .args in
     rw (values-short (a .dest) (a .channels .now) (a .count) (address (few .before)) (omega arith) (c .if3 .taken)) (refuses _ (a .buffer .now))
 
-sets-of-requires : tie.Need-sets-of-requires
-sets-of-requires c κs = search needs
+first-bad-requires : tie.Need-first-bad-requires
+first-bad-requires c κs = search needs
 
-write-rc-channels-burst-requires : tie.Need-write-rc-channels-burst-requires
-write-rc-channels-burst-requires c κs = search needs
+mul-set-at : tie.Need-mul-set-at
+mul-set-at c = search needs
+
+set-at-requires : tie.Need-set-at-requires
+set-at-requires c κs = search needs
+
+first-above-requires : tie.Need-first-above-requires
+first-above-requires c κs = search needs
+
+narrow-requires : tie.Need-narrow-requires
+narrow-requires c κs = search needs
+
+narrow-requires-2 : tie.Need-narrow-requires-2
+narrow-requires-2 c κs = search needs
+
+returns-4 : tie.Need-returns-4
+returns-4 c =
+    let asked = c .before .before in
+    let some = asked .before .before in
+    let found = some .before in
+    let enough = found .before in
+    let a = Begin enough .args in
+    let sets = Counted enough in
+    let k = found .first-bad .ensures in
+    let i =
+    asked .first-above .ensures
+    ∙ ap (λ (set : RcChannelsPacked). firstAbove (set .0)) (asked .before .set-at .ensures)
+    ∙ ap firstAbove (sym (sixteens-at (a .count) (a .channels .now) (found .first-bad .result) (some .if4 .taken)))
+    ∙ ap (λ (j : ℕ). firstAbove (getD sets j [])) k in
+    let less : firstBad sets < length sets = omega (arith, k, all-there enough, some .if4 .taken) in
+    let place = ltb-true (firstAbove (getD sets (firstBad sets) [])) channelsCount (first-found bad [] sets less) in
+    let few = enough .before .if2 .left in
+    let set-is : c .before .narrow .result ≡ firstBad sets = c .before .narrow .ensures ∙ mod-eq-of-lt (omega (arith, k, less, all-there enough, few)) ∙ k in
+    let place-is : c .narrow2 .result ≡ firstAbove (getD sets (firstBad sets) []) = c .narrow2 .ensures ∙ mod-eq-of-lt (omega (arith, i, place)) ∙ i in
+    rw (image-is enough, sets-refused (a .dest) sets less)
+    (ap₂ (λ (x y : ℕ). (writtenRow (Refused (SetChannelRange x y)), a .buffer .now)) set-is place-is ∙ refuses _ (a .buffer .now))
+
+mul-size : tie.Need-mul-size
+mul-size c = search needs
+
+returns-5 : tie.Need-returns-5
+returns-5 c =
+    let fine = c .before in
+    let a = Begin (fine .before .before) .args in
+    rw (image fine) (overflows _ (a .buffer .now) (a .count * frameSize) (long fine) (c .if5 .taken))
+
+put-sets-requires : tie.Need-put-sets-requires
+put-sets-requires c κs =
+    let room = c .before in
+    let fine = room .before in
+    let enough = fine .before .before in
+    ((omega (arith, enough .before .if2 .left), enough .if3 .left), (room .if5 .left, omega (arith, fine .before .first-bad .ensures, fine .if4 .left)))
 
 same-length : tie.Need-same-length
 same-length c = search needs
 
-returns-4 : tie.Need-returns-4
-returns-4 c =
-    let wrote = c .before .before in
-    let made = wrote .before in
-    let enough = made .before .before in
-    let few = enough .before in
-    let a = Start-of (few .before) .args in
-    let sets = made .sets-of .result in
-    wrote .write-rc-channels-burst .ensures
-    ∙ ap (λ (image : Image). writeOf image (a .buffer .now))
-    (counted (a .dest) sets (a .count) (address (few .before)) (omega arith)
-    ∙ ap (setsImage (a .dest)) (made .sets-of .ensures)
-    ∙ sym (values-sets (a .dest) (a .channels .now) (a .count) (address (few .before)) (omega arith) (enough .if3 .left)))
+returns-6 : tie.Need-returns-6
+returns-6 c =
+    let put = c .before .before in
+    let room = put .before .before in
+    let fine = room .before in
+    let a = Begin (fine .before .before) .args in
+    rw (image fine)
+    (ap (λ (l : List ℕ). (writtenRow (Wrote (a .count * frameSize)), l)) (put .put-sets .ensures)
+    ∙ writes _ (a .buffer .now) (a .count * frameSize) (long fine) (room .if5 .left))
 
 pub write-rc-channels-burst-values-spec : {M : Type 1} → statement M
 write-rc-channels-burst-values-spec =
@@ -78,7 +164,15 @@ write-rc-channels-burst-values-spec =
     returns-2
     mul-if3
     returns-3
-    sets-of-requires
-    write-rc-channels-burst-requires
+    first-bad-requires
+    mul-set-at
+    set-at-requires
+    first-above-requires
+    narrow-requires
+    narrow-requires-2
+    returns-4
+    mul-size
+    returns-5
+    put-sets-requires
     same-length
-    returns-4)
+    returns-6)
