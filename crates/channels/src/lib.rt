@@ -179,7 +179,8 @@ impl RcChannelsPacked {
         if buffer.len() < Self::MIN_PAYLOAD_SIZE {
             return Written::Refused(Refusal::BufferOverflow);
         }
-        self.put(buffer);
+        put_group(buffer, &packed, 0);
+        put_group(buffer, &packed, 11);
         Written::Wrote(Self::MIN_PAYLOAD_SIZE)
     }
 }

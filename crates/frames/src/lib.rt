@@ -55,8 +55,7 @@ pub fn write_link_statistics(buffer: &mut [u8], dest: u8, packet: LinkStatistics
 }
 
 // The frame of what 11 bits have of each channel, to any byte, at the front of a buffer that has room for it; a shorter one is left as it is. For writers,
-// which have tested all three. It stays a call, that of a single frame and of each frame of a burst: in it the compiler knows every place, and
-// takes the bytes to be checked from registers.
+// which have tested all three.
 pub fn put_rc_channels(buffer: &mut [u8], dest: u8, packet: RcChannelsPacked)
     ensures { λ _. ⌜ now (buffer .exit) ≡ placed (now (buffer .entry)) 0 (frame dest (channelsType ∷ channelBytes (lowBits (packet .0)))) ⌝ }
 {
@@ -78,15 +77,10 @@ pub fn write_rc_channels_packed(buffer: &mut [u8], dest: u8, packet: RcChannelsP
     if !is_address(dest) {
         return Written::Refused(Refusal::BadAddress);
     }
-    let bad = packet.first_above();
-    if bad < RcChannelsPacked::COUNT {
-        return Written::Refused(Refusal::ChannelRange(bad));
-    }
-    if buffer.len() < CHANNELS_FRAME {
-        return Written::Refused(Refusal::BufferOverflow);
-    }
-    put_rc_channels(buffer, dest, packet);
-    Written::Wrote(CHANNELS_FRAME)
+    let from = payload_start(buffer.len());
+    let to = from + payload_room(buffer.len());
+    let written = packet.to_bytes(&mut buffer[from..to]);
+    sealed(buffer, dest, RcChannelsPacked::PACKET_TYPE, written)
 }
 
 pub fn write_gps(buffer: &mut [u8], dest: u8, packet: Gps) -> Written
