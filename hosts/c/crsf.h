@@ -34,17 +34,18 @@
  *     crsf_pack_altitude                 24        crsf_baro_decimetres               24
  *     crsf_gps_metres                    24        crsf_channel_microseconds          24
  *     crsf_raw_view                      24        crsf_write_link_statistics        136
- *     crsf_write_rc_channels_packed     136        crsf_write_gps                    120
- *     crsf_write_gps_extended           168        crsf_write_battery                 72
- *     crsf_write_baro_altitude           40        crsf_write_rpm                     72
- *     crsf_write_temp                    72        crsf_write_voltages                72
- *     crsf_read_link_statistics          24        crsf_read_rc_channels_packed       56
- *     crsf_read_gps                      24        crsf_read_gps_extended             24
- *     crsf_read_battery                  24        crsf_read_baro_altitude            24
- *     crsf_read_rpm                      24        crsf_read_temp                     64
- *     crsf_read_voltages                 88        crsf_log_next                     264
- *     crsf_log_end                      184        crsf_log_reset                     24
- *     crsf_log_start                     24        crsf_log_entry                    232
+ *     crsf_write_rc_channels_packed     136        crsf_write_rc_channels_burst        0
+ *     crsf_write_gps                    120        crsf_write_gps_extended           168
+ *     crsf_write_battery                 72        crsf_write_baro_altitude           40
+ *     crsf_write_rpm                     72        crsf_write_temp                    72
+ *     crsf_write_voltages                72        crsf_read_link_statistics          24
+ *     crsf_read_rc_channels_packed       56        crsf_read_gps                      24
+ *     crsf_read_gps_extended             24        crsf_read_battery                  24
+ *     crsf_read_baro_altitude            24        crsf_read_rpm                      24
+ *     crsf_read_temp                     64        crsf_read_voltages                 88
+ *     crsf_log_next                     264        crsf_log_end                      184
+ *     crsf_log_reset                     24        crsf_log_start                     24
+ *     crsf_log_entry                    232
  */
 #ifndef CRSF_H
 #define CRSF_H
@@ -56,9 +57,9 @@
 
 /* The version of this header and of the archive, and nowhere else decided: CHANGELOG.md says what changed. */
 #define CRSF_VERSION_MAJOR 0
-#define CRSF_VERSION_MINOR 5
+#define CRSF_VERSION_MINOR 6
 #define CRSF_VERSION_PATCH 0
-#define CRSF_VERSION "0.5.0"
+#define CRSF_VERSION "0.6.0"
 
 #ifdef __cplusplus
 extern "C" {
@@ -74,7 +75,7 @@ typedef struct crsf_answer {
     uint8_t at;       /* of a frame: where it begins, in the bytes of the state or in the input */
     uint8_t len;      /* the bytes of a frame; or how many bytes were written or are held; or how many numbers were given */
     uint8_t first;    /* what a refusal carries, see below; the source id of RPM, temperatures or voltages that were read */
-    uint8_t second;   /* CRSF_INVALID_CRC: the carried check byte */
+    uint8_t second;   /* CRSF_INVALID_CRC: the carried check byte; CRSF_CHANNEL_RANGE of a burst: the channel's index in its set */
     uint8_t zero;     /* 0 */
 } crsf_answer;
 
@@ -85,9 +86,11 @@ enum {
     CRSF_INVALID_PACKET_LENGTH = 2,  /* first: a length byte that is not 2 to 62. One byte is dropped, the address before it */
     CRSF_INVALID_CRC = 3,            /* first: the calculated check byte; second: the carried one. One byte is dropped */
     CRSF_INVALID_PAYLOAD_LENGTH = 4, /* a payload too short for its record; more values than the record has at most, or none to write; not sixteen
-                                      * channels; a raw view of fewer than four bytes */
+                                      * channels; more than eight sets of a burst, or fewer numbers than its sets have; a raw view of fewer
+                                      * than four bytes */
     CRSF_BUFFER_OVERFLOW = 5,        /* a buffer too short for what would be written: nothing was */
-    CRSF_CHANNEL_RANGE = 6,          /* first: the index of the first channel above 2047, 0 of a single one. Nothing was written */
+    CRSF_CHANNEL_RANGE = 6,          /* first: the index of the first channel above 2047, 0 of a single one; of a burst, first: the set that has
+                                      * it, second: its index in that set. Nothing was written */
     CRSF_BAD_ADDRESS = 7,            /* a destination that is not an address. Nothing was written */
     CRSF_BAD_STATE = 8,              /* not a valid state, or a malformed saved form; 64 held bytes at a save. Nothing was taken or changed */
     CRSF_INVALID_LOG = 9,            /* of a log: a malformed number, a first number other than 1, an end inside an entry or before the 1, a byte
@@ -183,8 +186,8 @@ enum {
 };
 
 /* Writers: a whole frame to the front of the buffer, and len is how many bytes it has; or refusal 7, then 4, 6 or 11, then 5, with the buffer
- * unchanged. A frame never has more than 64 bytes, and no byte past it is touched. dest is the address that the frame is sent to, as 0xC8, the
- * flight controller's. */
+ * unchanged. A frame never has more than 64 bytes, the frames of a burst together never more than 208, and no byte past them is touched. dest is
+ * the address that they are sent to, as 0xC8, the flight controller's. */
 
 /* The quality of the radio link. Uplink is from the ground to the craft, downlink the other way.
  *   uplink_rssi_1, uplink_rssi_2  signal strength at antenna 1 and at antenna 2, in dBm without its minus sign: 90 is -90 dBm
@@ -201,6 +204,20 @@ crsf_answer crsf_write_link_statistics(uint8_t *buffer, size_t buffer_len, uint8
 /* The sixteen channels of a remote control. A channel x of 0 to 2047 stands for (x - 992) * 5 / 8 + 1500 microseconds: 992 is the middle.
  * channels_len has to be 16 (else 4), and no channel above 2047 (else 6). */
 crsf_answer crsf_write_rc_channels_packed(uint8_t *buffer, size_t buffer_len, uint8_t dest, const uint16_t *channels, size_t channels_len);
+
+enum {
+    CRSF_BURST_SETS_MAX = 8, /* the most sets of a burst */
+    CRSF_BURST_MAX = 208     /* the most bytes that it has: a frame of 26 for each set */
+};
+
+/* A burst, as for a run on a bench: the frames of several sets of channels, in one call. Each is the frame that crsf_write_rc_channels_packed writes
+ * of its set; they stand one after another, and len is 26 * count. All of them are written, or none.
+ *   channels   the sets one after another, sixteen numbers each, at least 16 * count of them (else 4). Those past the last set are not looked at
+ *   count      how many sets, 0 to CRSF_BURST_SETS_MAX (else 4)
+ * The refusals come in this order: 7, 4, 6 for the first channel above 2047 in one of the sets, 5. With count 0 nothing is written, and a buffer of
+ * any length will do; dest is tested all the same. */
+crsf_answer crsf_write_rc_channels_burst(uint8_t *buffer, size_t buffer_len, uint8_t dest, const uint16_t *channels, size_t channels_len,
+                                         size_t count);
 
 /* Where the craft is.
  *   latitude, longitude   degrees times 10^7

@@ -53,7 +53,9 @@ static crsf_log_state log_state, first_log_state;
 static uint8_t bytes[256], buffer[80], form[CRSF_SAVED_MAX], frame[CRSF_FRAME_MAX], log_bytes[80];
 static size_t count, room, frame_len, log_len;
 static uint8_t dest;
-static uint16_t channels[16];
+static uint16_t channels[16], sets[CRSF_BURST_SETS_MAX * 16];
+static uint8_t burst[CRSF_BURST_MAX];
+static size_t sets_len, burst_room;
 static int32_t numbers[20];
 static int16_t temperatures[CRSF_TEMPERATURES_MAX + 1];
 static uint16_t voltages[CRSF_VOLTAGE_VALUES_MAX + 1];
@@ -86,6 +88,7 @@ CALL(channel_microseconds, channels[0], bits, room % 2)
 CALL(raw_view, bytes, count % 9)
 CALL(write_link_statistics, buffer, room, dest, 1, 2, 3, 4, 5, 6, 7, 8, 9, 10)
 CALL(write_rc_channels_packed, buffer, room, dest, channels, count % 17)
+CALL(write_rc_channels_burst, burst, burst_room, dest, sets, sets_len, count % (CRSF_BURST_SETS_MAX + 2))
 CALL(write_gps, buffer, room, dest, 1, 2, 3, 4, 5, 6)
 CALL(write_gps_extended, buffer, room, dest, 1, 2, 3, 4, 5, 6, 7, 8, 9, 10, 11, 12)
 CALL(write_battery, buffer, room, dest, 1, 2, (uint32_t)numbers[0] >> count % 32, 4, bytes[0])
@@ -117,8 +120,8 @@ static struct {
     ENTRY(next_raw_packet), ENTRY(reset), ENTRY(save), ENTRY(restore), ENTRY(held),
     ENTRY(is_address), ENTRY(header_of), ENTRY(checksum), ENTRY(pack_altitude), ENTRY(baro_decimetres), ENTRY(gps_metres),
     ENTRY(channel_microseconds), ENTRY(raw_view),
-    ENTRY(write_link_statistics), ENTRY(write_rc_channels_packed), ENTRY(write_gps), ENTRY(write_gps_extended), ENTRY(write_battery),
-    ENTRY(write_baro_altitude), ENTRY(write_rpm), ENTRY(write_temp), ENTRY(write_voltages),
+    ENTRY(write_link_statistics), ENTRY(write_rc_channels_packed), ENTRY(write_rc_channels_burst), ENTRY(write_gps), ENTRY(write_gps_extended),
+    ENTRY(write_battery), ENTRY(write_baro_altitude), ENTRY(write_rpm), ENTRY(write_temp), ENTRY(write_voltages),
     ENTRY(read_link_statistics), ENTRY(read_rc_channels_packed), ENTRY(read_gps), ENTRY(read_gps_extended), ENTRY(read_battery),
     ENTRY(read_baro_altitude), ENTRY(read_rpm), ENTRY(read_temp), ENTRY(read_voltages),
     ENTRY(log_next), ENTRY(log_end), ENTRY(log_reset), ENTRY(log_start), ENTRY(log_entry),
@@ -172,6 +175,10 @@ int main(void)
             bytes[i] = turn % 2 ? (uint8_t)noise() : (uint8_t)(i % 7 ? i : 0xC8);
         for (size_t i = 0; i < 16; i++)
             channels[i] = (uint16_t)(noise() % (turn % 4 ? 2048 : 4096));
+        for (size_t i = 0; i < sizeof sets / sizeof *sets; i++)
+            sets[i] = (uint16_t)(turn % 4 || noise() % 64 ? noise() % 2048 : noise());
+        sets_len = turn % 6 ? sizeof sets / sizeof *sets : noise() % (sizeof sets / sizeof *sets);
+        burst_room = turn % 3 ? sizeof burst : noise() % sizeof burst;
         for (size_t i = 0; i < 20; i++)
             numbers[i] = (int32_t)(noise() * 331u);
         memcpy(temperatures, bytes, sizeof temperatures);

@@ -240,6 +240,23 @@ static void records(void)
     CHECK(refusal(crsf_write_rc_channels_packed(b, sizeof b, 0xC8, channels, 15), CRSF_INVALID_PAYLOAD_LENGTH));
     CHECK(refusal(crsf_write_rc_channels_packed(b, sizeof b, 0xC9, channels, 15), CRSF_BAD_ADDRESS));
 
+    /* two sets, and a number past them that is not looked at; a third set, which has it */
+    uint16_t sets[48] = {0};
+    sets[0] = sets[31] = 2047;
+    sets[36] = 2048;
+    memset(b, 0xAA, sizeof b);
+    CHECK(count(crsf_write_rc_channels_burst(b, sizeof b, 0xC8, sets, 48, 2), 52) && b[52] == 0xAA);
+    CHECK(memcmp(b, BYTES(0xC8, 24, CRSF_TYPE_RC_CHANNELS_PACKED, 0xFF, 7, 0)) == 0 && b[25] == check_byte(b + 2, 23));
+    CHECK(memcmp(b + 26, BYTES(0xC8, 24, CRSF_TYPE_RC_CHANNELS_PACKED, 0)) == 0 && memcmp(b + 48, BYTES(0, 0xE0, 0xFF)) == 0);
+    CHECK(b[51] == check_byte(b + 28, 23));
+    CHECK(is(crsf_write_rc_channels_burst(b, 0, 0xC8, sets, 48, 3), CRSF_CHANNEL_RANGE, 0, 0, 0, 0, 2, 4));
+    CHECK(refusal(crsf_write_rc_channels_burst(b, 51, 0xC8, sets, 32, 2), CRSF_BUFFER_OVERFLOW));
+    CHECK(refusal(crsf_write_rc_channels_burst(b, sizeof b, 0xC8, sets, 31, 2), CRSF_INVALID_PAYLOAD_LENGTH));
+    CHECK(refusal(crsf_write_rc_channels_burst(b, sizeof b, 0xC8, sets, 48, CRSF_BURST_SETS_MAX + 1), CRSF_INVALID_PAYLOAD_LENGTH));
+    CHECK(refusal(crsf_write_rc_channels_burst(b, sizeof b, 0xC9, sets, 0, CRSF_BURST_SETS_MAX + 1), CRSF_BAD_ADDRESS));
+    CHECK(refusal(crsf_write_rc_channels_burst(NULL, 0, 0xC9, NULL, 0, 0), CRSF_BAD_ADDRESS));
+    CHECK(count(crsf_write_rc_channels_burst(NULL, 0, 0xC8, NULL, 0, 0), 0) && b[0] == 0xC8 && b[51] == check_byte(b + 28, 23) && b[52] == 0xAA);
+
     const int32_t values[20] = {-1, -8388608, 5};
     int32_t got[20];
     p = WRITTEN(CRSF_TYPE_RPM, 10, crsf_write_rpm(b, sizeof b, 0xC8, 7, values, 3));

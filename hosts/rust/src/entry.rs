@@ -67,6 +67,14 @@ mod archive {
             downlink_snr: i8,
         ) -> u64;
         pub fn crsf_write_rc_channels_packed(buffer: *mut u8, buffer_len: usize, dest: u8, channels: *const u16, channels_len: usize) -> u64;
+        pub fn crsf_write_rc_channels_burst(
+            buffer: *mut u8,
+            buffer_len: usize,
+            dest: u8,
+            channels: *const u16,
+            channels_len: usize,
+            count: usize,
+        ) -> u64;
         pub fn crsf_write_gps(
             buffer: *mut u8,
             buffer_len: usize,
@@ -219,6 +227,13 @@ writer!(write_baro_altitude = crsf_write_baro_altitude(altitude_packed: u16, ver
 writer!(write_rpm = crsf_write_rpm(rpm_source_id: u8; rpm_values: i32));
 writer!(write_temp = crsf_write_temp(temp_source_id: u8; temperatures: i16));
 writer!(write_voltages = crsf_write_voltages(voltage_source_id: u8; voltage_values: u16));
+
+/// The numbers of the sets stand one after another, sixteen for each, so that the slice is passed with sixteen times its length. That has no overflow:
+/// a slice has fewer bytes than `isize` can count, and a set has 32.
+pub fn write_rc_channels_burst(buffer: &mut [u8], dest: u8, sets: &[[u16; 16]]) -> Answer {
+    let (numbers, count) = (sets.as_ptr().cast::<u16>(), sets.len());
+    unsafe { archive::crsf_write_rc_channels_burst(buffer.as_mut_ptr(), buffer.len(), dest, numbers, 16 * count, count) }.into()
+}
 
 /// A reader's wrapper.
 macro_rules! reader {

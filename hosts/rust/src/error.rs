@@ -23,12 +23,19 @@ pub enum CrsfStreamError {
 /// What a record's reader or writer refuses. Nothing is made or written then.
 #[derive(Clone, Copy, Debug, PartialEq, Eq)]
 pub enum CrsfParsingError {
-    /// 4: a payload under the record's minimum, or a wrong number of values.
+    /// 4: a payload under the record's minimum, a wrong number of values, or more than eight sets of a burst.
     InvalidPayloadLength,
     /// 5: the buffer is too short for what would be written.
     BufferOverflow,
     /// 6: the index of the first channel above 2047.
     ChannelRange(usize),
+    /// 6, of a burst: the first channel above 2047.
+    SetChannelRange {
+        /// The index of the set that has it.
+        set: usize,
+        /// Its index in that set.
+        channel: usize,
+    },
     /// 7: the destination is not an address.
     BadAddress,
     /// 11: a battery's capacity of 2^24 or more, for which its 24 bits have no room.
@@ -99,6 +106,7 @@ impl fmt::Display for CrsfParsingError {
             CrsfParsingError::InvalidPayloadLength => write!(f, "too few bytes, or a wrong number of values, for the record"),
             CrsfParsingError::BufferOverflow => write!(f, "the buffer is too short"),
             CrsfParsingError::ChannelRange(index) => write!(f, "channel {index} is above 2047"),
+            CrsfParsingError::SetChannelRange { set, channel } => write!(f, "channel {channel} of set {set} is above 2047"),
             CrsfParsingError::BadAddress => write!(f, "the destination is not an address"),
             CrsfParsingError::CapacityRange => write!(f, "the capacity is above 16777215 mAh"),
         }

@@ -14,7 +14,8 @@ mod parser;
 pub use error::{CrsfParsingError, CrsfStreamError, LogError};
 pub use log::{log_entry, log_start, LogEntry, LogReader, LOG_ENTRY_MAX};
 pub use packets::{
-    write_packet_to_buffer, BaroAltitude, Battery, CrsfPacket, Gps, GpsExtended, LinkStatistics, RcChannelsPacked, Rpm, Temp, Voltages,
+    write_packet_to_buffer, write_rc_channels_burst, BaroAltitude, Battery, CrsfPacket, Gps, GpsExtended, LinkStatistics, RcChannelsPacked, Rpm,
+    Temp, Voltages, BURST_MAX, BURST_SETS_MAX,
 };
 pub use parser::{CrsfParser, RawCrsfPacket, SavedParser};
 

@@ -209,6 +209,49 @@ impl CrsfPacket for RcChannelsPacked {
     }
 }
 
+/// The most sets of a burst.
+pub const BURST_SETS_MAX: usize = 8;
+
+/// The most bytes that a burst has: a frame of 26 for each set.
+pub const BURST_MAX: usize = 208;
+
+/// A burst, as for a run on a bench: the frames of several sets of channels, one after another at the front of `buffer`; the count of their bytes, 26
+/// for each. Each is the frame that [`RcChannelsPacked`] writes of its set. Refused, in this order: a `dest` that is not an address, more than
+/// [`BURST_SETS_MAX`] sets, a channel above 2047, and a `buffer` that is too short. A refusal writes nothing. With no set nothing is written, and a
+/// buffer of any length will do.
+///
+/// ```
+/// use crsf_host::{write_rc_channels_burst, CrsfParser, CrsfParsingError, BURST_MAX};
+///
+/// # fn main() -> Result<(), CrsfParsingError> {
+/// let mut sets = [[992; 16]; 3];
+/// sets[1][4] = 1811;
+/// let mut buffer = [0; BURST_MAX];
+/// let n = write_rc_channels_burst(&mut buffer, 0xC8, &sets)?;
+///
+/// let mut parser = CrsfParser::new();
+/// let mut input = &buffer[..n];
+/// let mut frames = 0;
+/// while let Some(frame) = parser.next_raw_packet(&mut input) {
+///     frames += usize::from(frame.is_ok());
+/// }
+/// assert_eq!((n, frames), (78, 3));
+///
+/// sets[2][9] = 2048;
+/// let refusal = write_rc_channels_burst(&mut buffer, 0xC8, &sets);
+/// assert_eq!(refusal, Err(CrsfParsingError::SetChannelRange { set: 2, channel: 9 }));
+/// # Ok(())
+/// # }
+/// ```
+pub fn write_rc_channels_burst(buffer: &mut [u8], dest: u8, sets: &[[u16; 16]]) -> Result<usize, CrsfParsingError> {
+    let answer = entry::write_rc_channels_burst(buffer, dest, sets);
+    match answer.number {
+        // The only writer whose refusal 6 names a set too.
+        6 => Err(CrsfParsingError::SetChannelRange { set: answer.first.into(), channel: answer.second.into() }),
+        _ => counted(answer),
+    }
+}
+
 /// A series: an id, then values of one type.
 macro_rules! series {
     ($(#[$about:meta])* $record:ident, $packet_type:literal, $most:literal, $read:ident, $write:ident, {
