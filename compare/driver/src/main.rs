@@ -1,6 +1,7 @@
 //! Runs the Rust original and the port on the same inputs and compares every answer; or times both. compare/run starts it.
 mod bench;
 mod beyond;
+mod bursts;
 mod framing;
 mod gen;
 mod listing;
@@ -110,7 +111,9 @@ fn main() {
     let differences = o.root.join("docs/DIFFERENCES.md");
     let mut report = Report::new(std::fs::read_to_string(&differences).unwrap_or_else(|e| panic!("{}: {e}", differences.display())));
     framing::compare(&mut report, o.seed, o.bytes);
-    records::compare(&mut report, o.seed, 20_000.max(o.bytes / 100));
+    let random = 20_000.max(o.bytes / 100);
+    records::compare(&mut report, o.seed, random);
+    bursts::compare(&mut report, o.seed, random);
     queries::compare(&mut report, o.seed);
     logs::compare(&mut report, o.seed);
     match listing(&o) {

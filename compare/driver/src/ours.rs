@@ -158,6 +158,7 @@ entries! {
     new fn crsf_log_end(state: *mut u8, state_len: usize) -> Answer;
     new fn crsf_log_start(out: *mut u8, out_len: usize) -> Answer;
     new fn crsf_log_entry(seconds: u32, frame: *const u8, frame_len: usize, out: *mut u8, out_len: usize) -> Answer;
+    new fn crsf_write_rc_channels_burst(b: *mut u8, n: usize, dest: u8, channels: *const u16, channels_len: usize, count: usize) -> Answer;
 }
 
 /// A safe function for each entry: a method by the table's pointer, and a function that calls libhost.a's. Not each is called in both ways.
@@ -237,6 +238,9 @@ lent! {
     fn log_start(out: &mut [u8]) -> Answer = crsf_log_start(out.as_mut_ptr(), out.len());
     fn log_entry(seconds: u32, frame: &[u8], out: &mut [u8]) -> Answer =
         crsf_log_entry(seconds, frame.as_ptr(), frame.len(), out.as_mut_ptr(), out.len());
+    /// So many sets of sixteen, at the front of the numbers.
+    fn write_rc_channels_burst(b: &mut [u8], dest: u8, channels: &[u16], count: usize) -> Answer =
+        crsf_write_rc_channels_burst(b.as_mut_ptr(), b.len(), dest, channels.as_ptr(), channels.len(), count);
 }
 
 // Entries that an archive of `compare/run --before` may lack: these stand in no table.
