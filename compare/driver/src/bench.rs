@@ -2,6 +2,7 @@
 //!
 //! Each side is called in the same way, through a pointer of which the compiler knows nothing (`kept`), so that nothing of either side is compiled
 //! into the loop that times it, and each call is a call through a register.
+use crate::bursts::{CHANNELS, FRAME, SETS};
 use crate::gen::{self, Rng};
 use crate::listing::Listing;
 use crate::logs;
@@ -33,6 +34,11 @@ pub const BYTES: &str = "typical frames in 1-byte pieces";
 /// A log of the same frames. The Rust has none: its side is its stream, over the frames alone.
 pub const LOG: &str = "log of typical frames, contiguous; the Rust, its frames alone";
 pub const LOG_SIXTEEN: &str = "log of typical frames in 16-byte pieces; the Rust, its frames alone";
+/// Channel frames one behind the other: how many, the row of a burst, and that of a call for each, which is the Rust's side in both.
+pub const BURSTS: [(usize, &str, &str); 2] = [
+    (SETS, "eight channel frames in a burst; the Rust, a call for each", "eight channel frames, a call for each"),
+    (1, "one channel frame in a burst; the Rust, its call", "one channel frame, a call"),
+];
 /// Both again with a call that reads the length byte and nothing else, so that what is left is the driver's own loop and the call.
 const LOOP: &str = "the driver's own loop, contiguous";
 pub const LOOP_BYTES: &str = "the driver's own loop in 1-byte pieces";
@@ -527,6 +533,62 @@ fn record_row_of_each_kind(rows: &mut Rows) {
     );
 }
 
+/// Buffers for so many channel frames, one after another, and the first set of each.
+#[inline(always)]
+fn bursts<const COUNT: usize>(each: impl Fn(&mut [u8], usize) -> u64) -> u64 {
+    let mut b = [0u8; SETS * FRAME];
+    (0..MANY / COUNT).map(|i| each(black_box(&mut b[..COUNT * FRAME]), i * COUNT % 64)).sum()
+}
+
+/// A call for each set, into the same places as a burst.
+#[inline(always)]
+fn one_by_one<const COUNT: usize>(all: &[RcChannelsPacked], each: impl Fn(&mut [u8], &RcChannelsPacked) -> u64) -> u64 {
+    bursts::<COUNT>(|b, at| b.chunks_exact_mut(FRAME).zip(black_box(&all[at..at + COUNT])).map(|(b, set)| each(b, set)).sum())
+}
+
+#[inline(never)]
+fn one_by_one_rust<const COUNT: usize>(all: &[RcChannelsPacked]) -> u64 {
+    let write = kept(&(write_packet_to_buffer as WriteRust<RcChannelsPacked>));
+    one_by_one::<COUNT>(all, |b, set| write(b, PacketAddress::FlightController, set).unwrap_or(0) as u64)
+}
+
+#[inline(never)]
+fn one_by_one_ours<const COUNT: usize>(entries: &Entries, all: &[RcChannelsPacked]) -> u64 {
+    let entries = entries.kept();
+    one_by_one::<COUNT>(all, |b, set| u64::from(entries.write_rc_channels_packed(b, 0xC8, &set.0).len))
+}
+
+#[inline(never)]
+fn bursts_ours<const COUNT: usize>(entries: &Entries, numbers: &[u16]) -> u64 {
+    let entries = entries.kept();
+    bursts::<COUNT>(|b, at| {
+        let numbers = black_box(&numbers[CHANNELS * at..CHANNELS * (at + COUNT)]);
+        u64::from(entries.write_rc_channels_burst(b, 0xC8, numbers, COUNT).len)
+    })
+}
+
+/// Sets of channels in bursts of so many, and by a call for each. What is timed is first held against the Rust's bytes.
+fn burst_rows<const COUNT: usize>(rows: &mut Rows) {
+    let mut r = Rng::new(7);
+    let numbers: &'static [u16] = (0..64).flat_map(|_| RECORDS[1].random_fields(&mut r)).map(|x| x as u16).collect::<Vec<_>>().leak();
+    let set = |numbers: &[u16]| RcChannelsPacked(numbers.try_into().expect("a set has sixteen channels"));
+    let all: &'static [RcChannelsPacked] = numbers.chunks(CHANNELS).map(set).collect::<Vec<_>>().leak();
+    for (all, numbers) in all.chunks(COUNT).zip(numbers.chunks(CHANNELS * COUNT)) {
+        let (mut rust, mut single, mut burst) = ([0; SETS * FRAME], [0; SETS * FRAME], [0; SETS * FRAME]);
+        for ((rust, single), set) in rust.chunks_mut(FRAME).zip(single.chunks_mut(FRAME)).zip(all) {
+            write_packet_to_buffer(rust, PacketAddress::FlightController, set).expect("26 bytes are enough");
+            ours::write_rc_channels_packed(single, 0xC8, &set.0);
+        }
+        ours::write_rc_channels_burst(&mut burst, 0xC8, numbers, COUNT);
+        assert!(single == rust && burst == rust, "what is written of {numbers:?} is not what the Rust writes");
+    }
+    let (_, burst, calls) = BURSTS.into_iter().find(|(count, ..)| *count == COUNT).expect("there are rows of that count");
+    rows.add(calls, "frame", MANY, || one_by_one_rust::<COUNT>(all), |e| one_by_one_ours::<COUNT>(e, all));
+    let archives = std::mem::replace(&mut rows.archives, vec![&ours::NOW]);
+    rows.add(burst, "frame", MANY, || one_by_one_rust::<COUNT>(all), |e| bursts_ours::<COUNT>(e, numbers));
+    rows.archives = archives;
+}
+
 /// The stream of typical frames, and a log of them.
 fn typical_and_log(r: &mut Rng) -> (Vec<u8>, Vec<logs::Entry>) {
     let typical = gen::typical(r, STREAM);
@@ -587,6 +649,8 @@ pub fn once(listing: Option<Listing>) {
     rows.add(CHECKS, "frame", frames.len(), || checks_rust(frames), |e| checks_ours(e, frames));
     rows.add("check byte of a long string", "byte", noise.len(), || checks_rust(&[noise]), |e| checks_ours(e, &[noise]));
     record_row_of_each_kind(&mut rows);
+    burst_rows::<SETS>(&mut rows);
+    burst_rows::<1>(&mut rows);
     altitude_rows(&mut rows);
     rows.add(LOOP, "frame", frames.len(), || stream_rust(walk_rust, typical, WHOLE), |e| stream_ours(&walking(e), typical, WHOLE));
     rows.add(LOOP_BYTES, "byte", typical.len(), || stream_rust(walk_rust, typical, 1), |e| stream_ours(&walking(e), typical, 1));

@@ -1,5 +1,5 @@
 //! The table of docs/SPEED.md: the timing run seven times, each time in a process of its own, and of each number the median.
-use crate::bench::{self, BYTES, CHECKS, CONTIGUOUS, FLOOR, LOG, LOG_SIXTEEN, LOOP_BYTES, SIXTEEN};
+use crate::bench::{self, BURSTS, BYTES, CHECKS, CONTIGUOUS, FLOOR, LOG, LOG_SIXTEEN, LOOP_BYTES, SIXTEEN};
 use crate::gen::TYPICAL;
 use std::process::{Command, Stdio};
 
@@ -64,6 +64,8 @@ pub fn run(command: &[String], emulated: bool) {
     floors(&runs);
     println!();
     logs(&runs);
+    println!();
+    bursts(&runs);
 }
 
 fn table(runs: &[Vec<Row>]) {
@@ -126,6 +128,20 @@ fn logs(runs: &[Vec<Row>]) {
         println!("| {name} | {log_ns:.2} | {log_speed:.0} | {stream_ns:.2} | {stream_speed:.0} | {} |", ratio(ratios.into_iter()));
     }
     println!("\nthe log has {log_bytes} bytes and {frames} entries, whose frames have {bytes} bytes");
+}
+
+/// A burst beside a call for each of its frames, ours and the Rust's, all in the same runs.
+fn bursts(runs: &[Vec<Row>]) {
+    let columns = ["channel frames", "burst, ns", "a frame", "our calls, ns", "a frame", "the Rust's calls, ns", "a frame"];
+    let ratios = ["burst : our calls", "in 7 runs", "burst : Rust", "in 7 runs"];
+    heading(&[&columns[..], &ratios].concat().iter().map(|text| text.to_string()).collect::<Vec<_>>());
+    for (count, burst, calls) in BURSTS {
+        let ours = |name| column(runs, name).map(|row| row.ns[row.ns.len() - 1]).collect::<Vec<_>>();
+        let (burst, calls, rust) = (ours(burst), ours(calls), column(runs, burst).map(|row| row.ns[0]).collect::<Vec<_>>());
+        let time = |side: &[f64]| format!("{:.2} | {:.2}", median(side.iter().map(|ns| ns * count as f64)), median(side.iter().copied()));
+        let of = |other: &[f64]| ratio(burst.iter().zip(other).map(|(burst, other)| burst / other));
+        println!("| {count} | {} | {} | {} | {} | {} |", time(&burst), time(&calls), time(&rust), of(&calls), of(&rust));
+    }
 }
 
 fn load() -> String {
