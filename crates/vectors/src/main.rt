@@ -1,5 +1,6 @@
 // Runs published vectors and worked cases, and writes what the library gives. The stored output was made from what was published, and from the rules.
 mod battery_edges;
+mod burst_edges;
 mod check_byte;
 mod edges;
 mod lists;
@@ -17,6 +18,8 @@ fn main() {
     edges::cases();
     heading(b"Batteries at both sides of the largest capacity");
     battery_edges::cases();
+    heading(b"Bursts of channels at both sides of each edge");
+    burst_edges::cases();
     heading(b"Series at both sides of each edge");
     series_edges::cases();
 }
