@@ -159,7 +159,8 @@ impl RcChannelsPacked {
     pub fn put(self, buffer: &mut [u8])
         ensures { λ _. ⌜ now (buffer .exit) ≡ placed (now (buffer .entry)) 0 (channelBytes (lowBits (self .0))) ⌝ }
     {
-        if buffer.len() < Self::MIN_PAYLOAD_SIZE {
+        let room = buffer.len();
+        if room < Self::MIN_PAYLOAD_SIZE {
             return;
         }
         let packed = self.0;
