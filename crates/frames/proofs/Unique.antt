@@ -3,10 +3,11 @@
 use mathlib.Core.List.{List}
 use Prim.Native.Nat.{ℕ}
 use denote.Ref.{now}
-use Rattle.base.proofs.Unique.{OneAnswer}
+use Rattle.base.proofs.Unique.{OneAnswer, same}
 use Rattle.writing.specs.declared.Written.{Written}
 use Rattle.writing.proofs.Rows.{one-write}
 use Rattle.frames.proofs.write_link_statistics.Reads as write-link-statistics
+use Rattle.frames.proofs.put_rc_channels.Reads as put-rc-channels
 use Rattle.frames.proofs.write_rc_channels_packed.Reads as write-rc-channels-packed
 use Rattle.frames.proofs.write_gps.Reads as write-gps
 use Rattle.frames.proofs.write_gps_extended.Reads as write-gps-extended
@@ -54,3 +55,6 @@ write-voltages-one κs a r r′ s s′ = one-write
 
 pub write-voltages-values-one : OneAnswer {Seen = Written × List ℕ} write-voltages-values.Post (λ κs r s. (r, now (s .0)))
 write-voltages-values-one κs a r r′ s s′ = one-write
+
+pub put-rc-channels-one : OneAnswer {Seen = List ℕ} put-rc-channels.Post (λ κs r s. now (s .0))
+put-rc-channels-one κs a r r′ s s′ = same

@@ -82,7 +82,7 @@ pub(crate) fn command() -> u8
         Asked::Input => list_from(STDIN_FILENO, b"standard input"),
         Asked::File => list_file(&word[..arguments.len]),
         Asked::Help => after_print(b"list", print_help()),
-        Asked::Version => after_print(b"list", print(b"list 0.5.0\n")),
+        Asked::Version => after_print(b"list", print(b"list 0.6.0\n")),
         Asked::Failed => 1,
         Asked::Refused => 2,
     }
