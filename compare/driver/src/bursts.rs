@@ -1,5 +1,5 @@
 //! Bursts: sets of channels written as frames one behind the other, all of them or none. The Rust has no burst: it writes the frame of each set by a
-//! call of its own, behind the one before, up to the first that it refuses. What it can't be asked is by the rules (RULES 1 and 14).
+//! call of its own, behind the one before, up to the first that it refuses. What it can't be asked is by the rules (RULES 1 and 17).
 use crate::gen::{hex, Rng, ADDRESSES};
 use crate::ours::{self, Answer};
 use crate::records::{edges, number_of, RECORDS};
@@ -201,7 +201,7 @@ pub fn compare(report: &mut Report, seed: u64, random: u64) {
     run("bursts written: random sets, buffers, numbers behind them", &|s| at_random(s, random));
     run("bursts into too short a buffer: the Rust writes what fits", &|s| too_short(s, some_fit));
     run("bursts with a channel above 2047: the Rust lets it spill", &|s| above(s, spills, random / 10));
-    run("bursts of any count and numbers: by RULES 1 and 14 alone", &|s| any(s, random / 2));
+    run("bursts of any count and numbers: by RULES 1 and 17 alone", &|s| any(s, random / 2));
 }
 
 /// Counts 0 to 8. The Rust and ours agree: buffers for some of the frames are left out.

@@ -103,7 +103,7 @@ impl fmt::Display for CrsfStreamError {
 impl fmt::Display for CrsfParsingError {
     fn fmt(&self, f: &mut fmt::Formatter<'_>) -> fmt::Result {
         match self {
-            CrsfParsingError::InvalidPayloadLength => write!(f, "too few bytes, or a wrong number of values, for the record"),
+            CrsfParsingError::InvalidPayloadLength => write!(f, "too few bytes, or a wrong number of values or of sets"),
             CrsfParsingError::BufferOverflow => write!(f, "the buffer is too short"),
             CrsfParsingError::ChannelRange(index) => write!(f, "channel {index} is above 2047"),
             CrsfParsingError::SetChannelRange { set, channel } => write!(f, "channel {channel} of set {set} is above 2047"),
