@@ -1,32 +1,29 @@
 -- What is written of a burst: the single frames' bytes, joined; they are read as exactly those frames, in order, with nothing left. Sets beyond the count
 -- are not looked at, and a refused burst changes no byte.
 -- Assumes nothing.
-use mathlib.Core.Path.{_≡_, refl, sym, ap, ap₂, subst, _∙_}
-use mathlib.Core.Bool.{true, false}
+use mathlib.Core.Path.{_≡_, refl, sym, ap, subst, _∙_}
+use mathlib.Core.Bool.{true}
 use mathlib.Core.List.{List, [], _∷_, _++_, map, append-nil}
 use mathlib.Core.Logic.{⊎-elim}
-use Prim.Native.Nat.{ℕ, zero, suc, _+_, _*_, _≤_, _<_}
-use native.Mathlib.Nat.{le-of-suc-le-suc, not-suc-le-zero, suc-mul}
+use Prim.Native.Nat.{ℕ, _+_, _*_, _≤_, _<_}
 use native.Mathlib.Omega.{arith}
 use borrow.Author.Tests.{le-ltb, ltb-false}
 use lib.Dec.{lit≤}
-use lib.ListN.{length, getD, take, drop, length-append, length-take, length-drop}
-use lib.Seq.{length-take-le, take-append-le, drop-append-le, getD-take, take-all}
-use Rattle.base.specs.Parts.{pasted}
+use lib.ListN.{length, getD, take, length-append, length-take}
+use lib.Seq.{length-take-le, getD-take, take-all}
 use Rattle.base.proofs.Parts.{pasted-nil}
 use Rattle.base.proofs.Tests.{by-test, below}
-use Rattle.base.proofs.First.{at-most, before-first, none-found}
+use Rattle.base.proofs.First.{before-first, none-found}
 use Rattle.packets.specs.Listed.{listed}
 use Rattle.reading.specs.Answer.{Answer, Frame}
 use Rattle.reading.specs.Reading.{limit, Reading, reading, readingPast, _⊕_}
 use Rattle.reading.specs.Frame.{AllValid, joined}
 use Rattle.reading.proofs.Frame.{frames-read}
 use Rattle.refusals.specs.declared.Refusal.{Refusal}
-use Rattle.refusals.specs.declared.Refusal.the-variants.{InvalidPayloadLength}
 use Rattle.writing.specs.Writing.{Image, bytes, refused, wroteRow, writtenRow, writeOf}
 use Rattle.writing.specs.declared.Written.the-variants.{Wrote, Refused}
 use Rattle.writing.proofs.Writing.{writes}
-use Rattle.writing.proofs.Left.{WroteBytes, wrote-bytes, at-front, kept}
+use Rattle.writing.proofs.Left.{wrote-bytes, at-front, kept}
 use Rattle.channels.specs.Channels.{channelsType, channelsCount, channelsSize, channelBytes, firstAbove, channelsImage}
 use Rattle.channels.specs.Digits.{number}
 use Rattle.channels.proofs.Digits.{length-digits}

@@ -4,12 +4,11 @@
 use mathlib.Core.Path.{_≡_, refl, sym, ap, _∙_}
 use mathlib.Core.Bool.{true, false}
 use mathlib.Core.List.{List, [], _∷_}
-use Prim.Native.Nat.{ℕ, _+_, _*_, _≤_, _<_}
+use Prim.Native.Nat.{ℕ, _≤_, _<_}
 use native.Mathlib.Omega.{arith}
 use borrow.Author.Tests.{le-ltb, lt-ltb}
 use lib.Dec.{ltb}
 use lib.ListN.{length, getD, take}
-use lib.Seq.{length-take-le, getD-take}
 use Rattle.base.proofs.First.{first-at, none-found}
 use Rattle.packets.specs.Listed.{listed}
 use Rattle.refusals.specs.Row.{rowOf}
@@ -19,9 +18,8 @@ use Rattle.writing.specs.Writing.{Image, bytes, refused, writtenRow, writeOf}
 use Rattle.writing.specs.declared.Written.the-variants.{Refused}
 use Rattle.writing.proofs.Writing.{overflows, refuses}
 use Rattle.channels.specs.Channels.{channelsCount, greatest, firstAbove}
-use Rattle.bursts.specs.Burst.{mostSets, frameSize, bad, firstBad, setFrames, setsImage, burstImage}
+use Rattle.bursts.specs.Burst.{mostSets, bad, firstBad, setsImage, burstImage}
 use Rattle.bursts.proofs.Images.{address-refused, count-refused, counted, sets-refused}
-use Rattle.bursts.proofs.Laws.{BurstOf, burst-of, burst-long}
 
 -- the channels of one set: sixteen, each at most 2047
 pub record InRange (set : List ℕ) : Type 0 where

@@ -3,20 +3,18 @@
 use mathlib.Core.Path.{_≡_, sym, ap, _∙_}
 use mathlib.Core.List.{List, [], map, append-nil}
 use Prim.Native.Nat.{ℕ, _<_}
-use native.Mathlib.Omega.{arith}
 use lib.ListN.{length, getD, take}
 use Rattle.reading.specs.Answer.{Frame}
 use Rattle.reading.specs.Reading.{limit, reading}
 use Rattle.writing.specs.Writing.{writtenRow, writeOf}
 use Rattle.writing.specs.declared.Written.the-variants.{Wrote}
-use Rattle.writing.proofs.Left.{WroteBytes, wrote-bytes, at-front}
+use Rattle.writing.proofs.Left.{wrote-bytes, at-front}
 use Rattle.view.specs.View.{payloadOf}
 use Rattle.layout.specs.Decoded.{readRow}
 use Rattle.layout.specs.declared.ReadAnswer.the-variants.{Record}
 use Rattle.channels.specs.Channels.{channelsType, channelsCount, channelBytes, channelsRead}
 use Rattle.channels.proofs.Laws.{image-bytes, channels-read-written}
 use Rattle.bursts.specs.Burst.{setFrame, setFrames, sixteens, valuesImage}
-use Rattle.bursts.proofs.Sixteens.{length-sixteens}
 use Rattle.bursts.proofs.Laws.{BurstOf, values-of, burst-read}
 use Rattle.round_trips.proofs.Frames.{payload-framed}
 

@@ -1,12 +1,11 @@
 -- `bursts::put_set` meets its contract. Assumes nothing.
 use mathlib.Core.Path.{_≡_, sym, ap, _∙_}
-use mathlib.Core.List.{List, _++_, append-nil}
-use Prim.Native.Nat.{ℕ, _+_, _-_, _≤_}
+use Prim.Native.Nat.{_+_, _-_}
 use native.Mathlib.Omega.{arith}
 use borrow.Author.Needs.{needs}
 use lib.ListN.{length, drop, length-drop}
 use lib.Seq.{length-take-le}
-use Rattle.base.specs.Parts.{pasted, copied}
+use Rattle.base.specs.Parts.{copied}
 use Rattle.base.proofs.Parts.{copied-all, pasted-front, cutOut, around, put-there}
 use Rattle.channels.specs.Channels.{channelsCount}
 use Rattle.bursts.proofs.put_set.Statement.{statement}

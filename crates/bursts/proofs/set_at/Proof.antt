@@ -7,7 +7,7 @@ use native.Mathlib.Omega.{arith}
 use borrow.Author.Needs.{needs}
 use lib.ListN.{length, take, drop, length-drop, replicate}
 use lib.Seq.{length-take-le}
-use Rattle.base.specs.Parts.{part, copied}
+use Rattle.base.specs.Parts.{copied}
 use Rattle.base.proofs.Parts.{copied-all}
 use Rattle.channels.specs.Channels.{channelsCount}
 use Rattle.bursts.proofs.set_at.Statement.{statement}

@@ -6,7 +6,6 @@ use Prim.Native.Nat.{ℕ, _≤_}
 use native.Mathlib.Omega.{arith}
 use borrow.Author.Needs.{needs}
 use lib.ListN.{length}
-use Rattle.base.specs.Parts.{placed}
 use Rattle.base.proofs.Parts.{placed-fits, placed-short}
 use Rattle.channels.specs.Digits.{number, Below}
 use Rattle.channels.specs.Channels.{channelsSize, channelBytes, lowBits}
