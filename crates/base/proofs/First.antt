@@ -3,7 +3,7 @@
 use mathlib.Core.Path.{_≡_, refl, ap}
 use mathlib.Core.Bool.{Bool, true, false}
 use mathlib.Core.List.{List, [], _∷_}
-use Prim.Native.Nat.{ℕ, zero, suc, _≤_, _<_}
+use Prim.Native.Nat.{ℕ, zero, suc, _<_}
 use native.Mathlib.Nat.{le-of-suc-le-suc, not-suc-le-zero}
 use native.Mathlib.Omega.{arith}
 use lib.ListN.{length, getD, drop}
@@ -25,11 +25,6 @@ module _ {A : Type 0} (t : A → Bool) (z : A) where
   passed l i h miss = rw (drop-cons l i z, miss)
 
   -- ---- what it is
-
-  pub at-most : (l : List A) → firstWhere t l ≤ length l
-  unfolding firstWhere
-  at-most [] = omega arith
-  at-most (x ∷ xs) = by-test (t x) (λ hit. rw hit (omega arith)) (λ miss. rw miss (omega (arith, at-most xs)))
 
   -- every element before it is one that the test does not find
   pub before-first : (l : List A) (i : ℕ) → i < firstWhere t l → t (getD l i z) ≡ false

@@ -1,4 +1,4 @@
--- One turn of the writer: a single write, right behind those before it, brings the next frame.
+-- One turn of the writer: the next frame, put right behind those before it.
 -- Assumes nothing.
 use mathlib.Core.Path.{_≡_, refl, sym, ap, _∙_}
 use mathlib.Core.Bool.{true}
@@ -57,7 +57,9 @@ pub single : (dest : ℕ) (set : List ℕ) → listed dest ≡ true → channels
 unfolding framed framedBody
 single dest set address good = rw (address, image-bytes (record { 0 = set }) good)
 
--- it is lent what is left of the buffer, and leaves its frame at the front of that
+-- ---- a turn
+
+-- the next frame is put at the front of what is left of the buffer
 pub put-next : (dest : ℕ) (set buffer : List ℕ) (at : ℕ) {ys : List ℕ} → length set ≡ channelsCount → channelsCount ≤ firstAbove set
     → at + frameSize ≤ length buffer
     → ys ≡ placed (cutOut buffer at (length buffer)) 0 (setFrame dest (lowBits set))

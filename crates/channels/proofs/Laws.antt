@@ -42,10 +42,11 @@ module _ (c : RcChannelsPacked) where
   pub channels-length : (payload : List ℕ) → channelsImage c ≡ bytes payload → length payload ≡ channelsSize
   channels-length payload e = rw (← (known payload e .1)) (length-digits 8 channelsSize (number 11 (c .0)))
 
--- what 11 bits have of channels up to 2047 is these
+-- what 11 bits have of a channel is below 2^11
 pub low-below : (l : List ℕ) → Below 11 (lowBits l)
 low-below l i = rw (List·getD-map (λ (c : ℕ). c % 2 ^ 11) l i 0) (mod-lt (getD l i 0) (pow-pos 11))
 
+-- and is all of one up to 2047
 pub low-same : (l : List ℕ) → Below 11 l → lowBits l ≡ l
 low-same [] h = refl
 low-same (c ∷ cs) h = ap₂ _∷_ (mod-eq-of-lt (h 0)) (low-same cs (λ i. h (suc i)))

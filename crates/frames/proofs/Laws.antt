@@ -1,6 +1,6 @@
 -- What is written is a valid frame, and its reading is that frame; and the order in which a writer refuses.
 -- Assumes nothing.
-use mathlib.Core.Path.{_≡_, refl, sym, ap, subst, _∙_}
+use mathlib.Core.Path.{_≡_, refl, sym, ap, _∙_}
 use mathlib.Core.Bool.{true, false}
 use mathlib.Core.List.{List, [], _∷_, _++_, append-nil}
 use Prim.Native.Nat.{ℕ, _+_, _≤_, _<_}
@@ -12,6 +12,7 @@ use Rattle.refusals.specs.declared.Refusal.{Refusal}
 use Rattle.refusals.specs.declared.Refusal.the-variants.{InvalidPayloadLength, BufferOverflow, BadAddress, CapacityRange}
 use Rattle.writing.specs.Writing.{Image, bytes, refused, writtenRow, writeOf}
 use Rattle.writing.proofs.Writing.{refuses}
+use Rattle.writing.proofs.Left.{no-bytes, same-bytes}
 use Rattle.packets.specs.Listed.{listed}
 use Rattle.reading.specs.Answer.{Frame}
 use Rattle.reading.specs.Reading.{limit, reading, _⊕_}
@@ -44,24 +45,13 @@ pub record FrameOf (dest kind : ℕ) (image : Image) (f : List ℕ) : Type 0 whe
   pub whole : f ≡ frame dest (kind ∷ payload)
   pub address : listed dest ≡ true
 
-abbrev bytesIn : Image → List ℕ
-bytesIn (bytes bs) = bs
-bytesIn (refused r) = []
-
-abbrev IsBytes : Image → Type 0
-IsBytes (bytes bs) = Unit {0}
-IsBytes (refused r) = ⊥
-
-no-bytes : {r : Refusal} {f : List ℕ} → refused r ≡ bytes f → ⊥
-no-bytes e = subst IsBytes (sym e) tt
-
 pub frame-of : (dest kind : ℕ) (image : Image) (f : List ℕ) → framed dest kind image ≡ bytes f → FrameOf dest kind image f
 unfolding framed framedBody
 frame-of dest kind (bytes p) f e =
     by-test (listed dest)
-    (λ t. record { payload = p; is = refl; whole = sym (ap bytesIn (simp t at e)); address = t })
-    (λ t. absurd (no-bytes (simp t at e)))
-frame-of dest kind (refused r) f e = by-test (listed dest) (λ t. absurd (no-bytes (simp t at e))) (λ t. absurd (no-bytes (simp t at e)))
+    (λ t. record { payload = p; is = refl; whole = same-bytes (simp t at e) refl; address = t })
+    (λ t. absurd (no-bytes refl (simp t at e)))
+frame-of dest kind (refused r) f e = by-test (listed dest) (λ t. absurd (no-bytes refl (simp t at e))) (λ t. absurd (no-bytes refl (simp t at e)))
 
 -- ---- THE ORDER OF REFUSALS: the address (7), then the record's own (4, 6, 11), then the room (5); the buffer stays as it was
 

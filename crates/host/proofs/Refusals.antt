@@ -15,13 +15,12 @@ use Rattle.packets.specs.Listed.{listed}
 use Rattle.refusals.specs.Row.{rowOf}
 use Rattle.refusals.specs.declared.Refusal.{Refusal}
 use Rattle.refusals.specs.declared.Refusal.the-variants.{InvalidPayloadLength, BufferOverflow, ChannelRange, SetChannelRange, BadAddress, CapacityRange}
-use Rattle.writing.specs.Writing.{Image, writtenRow, writeOf}
+use Rattle.writing.specs.Writing.{Image, writeOf}
 use Rattle.writing.specs.Writing as writing
-use Rattle.writing.proofs.Writing.{refuses}
 use Rattle.layout.specs.Decoded.{Decoded, refused}
 use Rattle.records.specs.Battery.{tooLarge, batteryImage}
 use Rattle.records.specs.declared.battery.Battery.{Battery}
-use Rattle.channels.specs.Channels.{channelsCount, firstAbove, channelsImage}
+use Rattle.channels.specs.Channels.{firstAbove, channelsImage}
 use Rattle.channels.specs.declared.RcChannelsPacked.{RcChannelsPacked}
 use Rattle.channels.proofs.Laws.{image-refused, image-bytes}
 use Rattle.series.specs.Series.{Kind, seriesRead, newImage}
@@ -32,9 +31,9 @@ use Rattle.series.proofs.WriteLaws.{new-image}
 use Rattle.stream.specs.declared.step.Reply.the-variants.{Refused}
 use Rattle.frames.specs.Frames.{overhead, framed}
 use Rattle.frames.proofs.Laws.{address-first, record-second, none-second, capacity-second, room-last}
-use Rattle.bursts.specs.Burst.{mostSets, sixteens, valuesImage}
-use Rattle.bursts.proofs.Sixteens.{length-sixteens, values-sets}
-use Rattle.bursts.proofs.Order.{FirstAt, refuses-first}
+use Rattle.bursts.specs.Burst.{sixteens, valuesImage}
+use Rattle.bursts.proofs.Sixteens.{length-sixteens}
+use Rattle.bursts.proofs.Order.{FirstAt, values-channel-third}
 use Rattle.host_state.specs.Saving.{heldRowOf, resetState, stateImage, restoreState}
 use Rattle.host_answer.specs.Answer.{packed, answerRow, answers}
 use Rattle.host_answer.specs.Reply.{answerReply, Calls}
@@ -73,6 +72,10 @@ module _ (r : Refusal) where
   pub write-refuses : (dest kind : ℕ) (image : Image) (buffer : List ℕ) → writeOf (framed dest kind image) buffer .0 ≡ rowOf r
       → unpacked 8 (writes dest kind image buffer .0) ≡ refusalBytes 0 r
   write-refuses dest kind image buffer = row-bytes r refl
+
+  pub burst-refuses : (dest : ℕ) (numbers : List ℕ) (count : ℕ) (buffer : List ℕ) → writeOf (valuesImage dest numbers count) buffer .0 ≡ rowOf r
+      → unpacked 8 (answers (writeOf (valuesImage dest numbers count) buffer) .0) ≡ refusalBytes 0 r
+  burst-refuses dest numbers count buffer = row-bytes r refl
 
   -- ---- readers
 
@@ -132,19 +135,17 @@ module _ (dest kind : ℕ) (buffer : List ℕ) where
 
 -- a burst, of numbers enough for its count: the first channel above 2047 is told by its set and its place there, whatever the buffer. The eight bytes are
 -- 6, four of 0, the set, the place and 0
-pub refuses-set-channel : (dest : ℕ) (numbers : List ℕ) (count : ℕ) (buffer : List ℕ) (k i : ℕ) → listed dest ≡ true → count ≤ mostSets
-    → count * channelsCount ≤ length numbers → FirstAt (sixteens count numbers) k i
+pub refuses-set-channel : (dest : ℕ) (numbers : List ℕ) (count : ℕ) (buffer : List ℕ) (k i : ℕ) → listed dest ≡ true → count ≤ 8
+    → count * 16 ≤ length numbers → FirstAt (sixteens count numbers) k i
     → (unpacked 8 (answers (writeOf (valuesImage dest numbers count) buffer) .0) ≡ 6 ∷ 0 ∷ 0 ∷ 0 ∷ 0 ∷ k ∷ i ∷ 0 ∷ [])
     × (writeOf (valuesImage dest numbers count) buffer .1 ≡ buffer)
-unfolding writtenRow
 refuses-set-channel dest numbers count buffer k i address few enough f =
     let said : writeOf (valuesImage dest numbers count) buffer ≡ (rowOf (SetChannelRange k i), buffer) =
-    ap (λ (image : Image). writeOf image buffer) (values-sets dest numbers count address few enough ∙ refuses-first dest (sixteens count numbers) k i f)
-    ∙ sym (refuses (SetChannelRange k i) buffer) in
+    values-channel-third dest numbers count buffer address few enough k i f in
     let sets : length (sixteens count numbers) ≡ count = length-sixteens count numbers in
     let set-fits : k % 256 ≡ k = mod-eq-of-lt (omega (arith, f .set)) in
     let place-fits : i % 256 ≡ i = mod-eq-of-lt (omega (arith, f .channel)) in (
-      row-bytes (SetChannelRange k i) refl (ap (λ (x : List ℕ × List ℕ). x .0) said)
+      burst-refuses (SetChannelRange k i) dest numbers count buffer (ap (λ (x : List ℕ × List ℕ). x .0) said)
           ∙ ap₂ (λ (x y : ℕ). 6 ∷ 0 ∷ 0 ∷ 0 ∷ 0 ∷ x ∷ y ∷ 0 ∷ []) set-fits place-fits,
       ap (λ (x : List ℕ × List ℕ). x .1) said,
     )

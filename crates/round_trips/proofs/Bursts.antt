@@ -2,8 +2,11 @@
 -- Assumes nothing.
 use mathlib.Core.Path.{_≡_, sym, ap, _∙_}
 use mathlib.Core.List.{List, [], map, append-nil}
-use Prim.Native.Nat.{ℕ, _<_}
+use Prim.Native.Nat.{ℕ, _*_, _<_}
+use native.Mathlib.Omega.{arith}
 use lib.ListN.{length, getD, take}
+use Rattle.base.specs.Parts.{part}
+use Rattle.base.proofs.Parts.{length-part}
 use Rattle.reading.specs.Answer.{Frame}
 use Rattle.reading.specs.Reading.{limit, reading}
 use Rattle.writing.specs.Writing.{writtenRow, writeOf}
@@ -15,10 +18,11 @@ use Rattle.layout.specs.declared.ReadAnswer.the-variants.{Record}
 use Rattle.channels.specs.Channels.{channelsType, channelsCount, channelBytes, channelsRead}
 use Rattle.channels.proofs.Laws.{image-bytes, channels-read-written}
 use Rattle.bursts.specs.Burst.{setFrame, setFrames, sixteens, valuesImage}
-use Rattle.bursts.proofs.Laws.{BurstOf, values-of, burst-read}
+use Rattle.bursts.proofs.Sixteens.{length-sixteens, sixteens-at}
+use Rattle.bursts.proofs.Laws.{BurstOf, values-of, values-enough, burst-read}
 use Rattle.round_trips.proofs.Frames.{payload-framed}
 
--- of a burst's frames each is that of its set
+-- of a burst's frames each is that of its set, where a set has sixteen channels
 pub burst-fields : {dest : ℕ} {sets : List (List ℕ)} {bs : List ℕ} → BurstOf dest sets bs → (k : ℕ) → k < length sets → length (getD sets k []) ≡ channelsCount
     → channelsRead (payloadOf (setFrame dest (getD sets k []))) ≡ (readRow Record, record { 0 = getD sets k [] })
 burst-fields {dest} {sets} b k less sixteen =
@@ -34,3 +38,15 @@ pub burst-read-back : (dest : ℕ) (numbers : List ℕ) (count : ℕ) (buffer : 
 burst-read-back dest numbers count buffer n call =
     let w = wrote-bytes (valuesImage dest numbers count) buffer n call in
     ap (reading limit) (at-front (w .written) buffer n (w .left-so)) ∙ burst-read (values-of dest numbers count (w .written) (w .is))
+
+-- .. and frame k is that of the k-th sixteen numbers, and is read as these
+pub burst-sets-back : (dest : ℕ) (numbers : List ℕ) (count : ℕ) (buffer : List ℕ) (n : ℕ) {after : List ℕ}
+    → (writtenRow (Wrote n), after) ≡ writeOf (valuesImage dest numbers count) buffer → (k : ℕ) → k < count
+    → channelsRead (payloadOf (setFrame dest (getD (sixteens count numbers) k []))) ≡ (readRow Record, record { 0 = part numbers (k * 16) 16 })
+burst-sets-back dest numbers count buffer n call k less =
+    let w = wrote-bytes (valuesImage dest numbers count) buffer n call in
+    let b = values-of dest numbers count (w .written) (w .is) in
+    let enough = values-enough dest numbers count (w .written) (w .is) in
+    let is = sixteens-at count numbers k less in
+    burst-fields b k (omega (arith, less, length-sixteens count numbers)) (ap length is ∙ length-part numbers (k * 16) 16 (omega (arith, less, enough)))
+    ∙ ap (λ (set : List ℕ). (readRow Record, record { 0 = set })) is

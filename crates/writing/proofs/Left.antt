@@ -1,8 +1,8 @@
 -- What a call left: where a writer says that it wrote, all of its bytes at the front; where it refuses, every byte as it was.
 -- Assumes nothing.
 use Prim.Native.Nat.{ℕ, _≤_}
-use mathlib.Core.Path.{_≡_, refl, sym, ap, _∙_}
-use mathlib.Core.List.{List}
+use mathlib.Core.Path.{_≡_, refl, sym, ap, subst, _∙_}
+use mathlib.Core.List.{List, []}
 use borrow.Author.Tests.{leb-true}
 use lib.Dec.{leb}
 use lib.ListN.{length, getD, take, drop}
@@ -16,6 +16,22 @@ use Rattle.refusals.specs.declared.Refusal.the-variants.{BufferOverflow}
 use Rattle.refusals.proofs.Rows.{not-zero}
 use Rattle.writing.specs.Writing.{Image, bytes, refused, wroteRow, writtenRow, writeOf}
 use Rattle.writing.specs.declared.Written.the-variants.{Wrote, Refused}
+
+-- a refusal is no bytes
+abbrev IsBytes : Image → Type 0
+IsBytes (bytes bs) = Unit {0}
+IsBytes (refused r) = ⊥
+
+pub no-bytes : {image : Image} {r : Refusal} {bs : List ℕ} → image ≡ refused r → image ≡ bytes bs → ⊥
+no-bytes e f = subst IsBytes (sym f ∙ e) tt
+
+-- and bytes are known by their image
+abbrev bytesIn : Image → List ℕ
+bytesIn (bytes bs) = bs
+bytesIn (refused r) = []
+
+pub same-bytes : {image : Image} {bs cs : List ℕ} → image ≡ bytes bs → image ≡ bytes cs → bs ≡ cs
+same-bytes e f = ap bytesIn (sym e ∙ f)
 
 -- bytes that were written, all of them
 pub record Left (bs buffer : List ℕ) (n : ℕ) (after : List ℕ) : Type 0 where
