@@ -105,7 +105,7 @@ static void burst_around(size_t sets)
                 burst_writes(to[i], given[j], sets, lent[k]);
 }
 
-/* Each count of 0 to 300; each power of two, the numbers around it, and those around what 16, 26 and 416 times them do not fit a word any more. With
+/* Each count of 0 to 300; each power of two, the numbers around it, and those around what 16, 26, 32 and 416 times them do not fit a word any more. With
  * good numbers, and with one above 2047 in the first set, in the eighth and in the ninth. */
 static void each_count(void)
 {

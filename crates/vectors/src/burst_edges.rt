@@ -68,6 +68,7 @@ fn in_range(sets: [[u16; 16]; 8]) {
     burst(sets, 1, 0xC8, 27);
     burst(sets, 2, 0xEE, 51);
     burst(sets, 2, 0xEE, 52);
+    burst(sets, 8, 0xC8, 0);
     burst(sets, 8, 0xC8, 207);
     burst(sets, 8, 0xC8, 208);
     burst(sets, 8, 0xC8, 210);
@@ -77,7 +78,8 @@ fn in_range(sets: [[u16; 16]; 8]) {
     burst(sets, 9, 0xC9, 2);
 }
 
-fn above(mut sets: [[u16; 16]; 8], set: usize, channel: usize) {
+// The sets with one channel of 2048 more.
+fn above(mut sets: [[u16; 16]; 8], set: usize, channel: usize) -> [[u16; 16]; 8] {
     if set < 8 {
         let mut bad = sets[set];
         if channel < 16 {
@@ -91,8 +93,10 @@ fn above(mut sets: [[u16; 16]; 8], set: usize, channel: usize) {
     burst(sets, 1, 0xC8, 26);
     burst(sets, 2, 0xC8, 51);
     burst(sets, 2, 0xC9, 52);
+    burst(sets, 7, 0xC8, 182);
     burst(sets, 8, 0xC8, 208);
     burst(sets, 9, 0xC8, 2);
+    sets
 }
 
 fn counted() {
@@ -145,6 +149,8 @@ pub fn cases() {
     in_range(sets);
     above(sets, 0, 0);
     above(sets, 1, 15);
-    above(sets, 7, 3);
+    let last = above(sets, 7, 3);
+    let two = above(last, 2, 0);
+    above(two, 1, 15);
     counted();
 }
