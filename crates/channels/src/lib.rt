@@ -3,13 +3,13 @@ use layout::ReadAnswer;
 use refusals::Refusal;
 use writing::Written;
 ghost use mathlib.Core.Path.{_≡_};
-ghost use Prim.Native.Nat.{_+_, _≤_, _<_};
+ghost use Prim.Native.Nat.{_+_, _*_, _≤_, _<_};
 ghost use lib.ListN.{length, getD};
 ghost use Rattle.base.specs.Parts.{part, pasted, placed};
 ghost use Rattle.layout.specs.Decoded.{readRow};
 ghost use Rattle.writing.specs.Writing.{writtenRow, writeOf};
-ghost use Rattle.channels.specs.Digits.{Below};
-ghost use Rattle.channels.specs.Channels.{channelsOf, channelBytes, channelsSize, channelsRead, lowBits, firstAbove, channelsImage};
+ghost use Rattle.channels.specs.Digits.{Below, digits};
+ghost use Rattle.channels.specs.Channels.{channelsOf, channelBytes, channelsCount, channelsSize, channelsRead, lowBits, firstAbove, channelsImage};
 
 const COUNT: usize = 16;
 
@@ -31,10 +31,10 @@ fn wide8(byte: u8) -> u32
     byte as u32
 }
 
-fn wide16(channel: u16) -> u32
-    ensures { λ r. ⌜ (r ≡ channel) × (r < 65536) ⌝ }
+fn wide16(channel: u16) -> u64
+    ensures { λ r. ⌜ r ≡ channel ⌝ }
 {
-    channel as u32
+    channel as u64
 }
 
 // The byte at `at`, 0 past the end.
@@ -58,40 +58,94 @@ fn channel_of(payload: &[u8], i: usize) -> u16
     ((window >> (bit % 8)) % 2048) as u16
 }
 
-// The channel at `i`, 0 past the last.
-fn channel_at(channels: &[u16], i: usize) -> u32
-    ensures { λ r. ⌜ (r ≡ getD (now (channels .entry)) i 0) × (r < 65536) ⌝ }
+fn channel_at(channels: &[u16; COUNT], i: usize) -> u64
+    requires { ⌜ i < channelsCount ⌝ }
+    requires { ⌜ Below 11 (now channels) ⌝ }
+    ensures { λ r. ⌜ (r ≡ getD (now (channels .entry)) i 0) × (r < 2048) ⌝ }
 {
-    if i < channels.len() {
-        wide16(channels[i])
-    } else {
-        0
-    }
+    wide16(channels[i])
 }
 
-// Byte `i` starts at bit 8 i and lies within two channels.
-fn byte_of(channels: &[u16], i: usize) -> u8
-    requires { ⌜ i < channelsSize ⌝ }
+// The 33 bits of three channels.
+fn three(channels: &[u16; COUNT], at: usize) -> u64
+    requires { ⌜ at + 2 < channelsCount ⌝ }
     requires { ⌜ Below 11 (now channels) ⌝ }
-    ensures { λ r. ⌜ r ≡ getD (channelBytes (now (channels .entry))) i 0 ⌝ }
+    ensures { λ r. ⌜ (r ≡ getD (now (channels .entry)) at 0 + getD (now (channels .entry)) (at + 1) 0 * 2048 + getD (now (channels .entry)) (at + 2) 0 * 4194304) × (r < 8589934592) ⌝ }
 {
-    let bit = i * 8;
-    let at = bit / 11;
     let low = channel_at(channels, at);
-    let high = channel_at(channels, at + 1);
-    let window = low + high * 2048;
-    ((window >> (bit % 11)) % 256) as u8
+    let middle = channel_at(channels, at + 1);
+    let high = channel_at(channels, at + 2);
+    low + middle * 2048 + high * 4194304
 }
 
-// Eleven bytes hold eight channels. Two short loops are unrolled where one of 22 turns is not.
-fn put_group(buffer: &mut [u8], channels: &[u16], from: usize)
-    requires { ⌜ (from + 11 ≤ channelsSize) × (from + 11 ≤ length (now buffer)) ⌝ }
+// The first six bytes as one number: 33 bits of three channels, and 15 of the next.
+fn first_word(channels: &[u16; COUNT]) -> u64
     requires { ⌜ Below 11 (now channels) ⌝ }
-    ensures { λ _. ⌜ now (buffer .exit) ≡ pasted (now (buffer .entry)) from (part (channelBytes (now (channels .entry))) from 11) ⌝ }
+    ensures { λ r. ⌜ digits 8 6 r ≡ part (channelBytes (now (channels .entry))) 0 6 ⌝ }
 {
-    for i in 0..11 {
-        buffer[from + i] = byte_of(channels, from + i);
-    }
+    three(channels, 0) + three(channels, 3) % 32768 * 8589934592
+}
+
+// The eight bytes behind them: what is left of channel 4 on, and two bits of channel 10.
+fn middle_word(channels: &[u16; COUNT]) -> u64
+    requires { ⌜ Below 11 (now channels) ⌝ }
+    ensures { λ r. ⌜ digits 8 8 r ≡ part (channelBytes (now (channels .entry))) 6 8 ⌝ }
+{
+    three(channels, 4) / 16
+        + three(channels, 7) * 536870912
+        + channel_at(channels, 10) % 4 * 4611686018427387904
+}
+
+// The last eight bytes: what is left of channel 10 on.
+fn last_word(channels: &[u16; COUNT]) -> u64
+    requires { ⌜ Below 11 (now channels) ⌝ }
+    ensures { λ r. ⌜ digits 8 8 r ≡ part (channelBytes (now (channels .entry))) 14 8 ⌝ }
+{
+    three(channels, 10) / 4 + three(channels, 13) * 2147483648
+}
+
+// The low bytes of a word, the lowest first. The compiler makes one store of two, of four and of eight; not of a loop.
+fn put_two(buffer: &mut [u8], at: usize, word: u64)
+    requires { ⌜ at + 2 ≤ length (now buffer) ⌝ }
+    ensures { λ _. ⌜ now (buffer .exit) ≡ pasted (now (buffer .entry)) at (digits 8 2 word) ⌝ }
+{
+    buffer[at] = (word % 256) as u8;
+    buffer[at + 1] = (word / 256 % 256) as u8;
+}
+
+fn put_four(buffer: &mut [u8], at: usize, word: u64)
+    requires { ⌜ at + 4 ≤ length (now buffer) ⌝ }
+    ensures { λ _. ⌜ now (buffer .exit) ≡ pasted (now (buffer .entry)) at (digits 8 4 word) ⌝ }
+{
+    put_two(buffer, at, word);
+    put_two(buffer, at + 2, word / 65536);
+}
+
+fn put_eight(buffer: &mut [u8], at: usize, word: u64)
+    requires { ⌜ at + 8 ≤ length (now buffer) ⌝ }
+    ensures { λ _. ⌜ now (buffer .exit) ≡ pasted (now (buffer .entry)) at (digits 8 8 word) ⌝ }
+{
+    put_four(buffer, at, word);
+    put_four(buffer, at + 4, word / 4294967296);
+}
+
+fn put_six(buffer: &mut [u8], at: usize, word: u64)
+    requires { ⌜ at + 6 ≤ length (now buffer) ⌝ }
+    ensures { λ _. ⌜ now (buffer .exit) ≡ pasted (now (buffer .entry)) at (digits 8 6 word) ⌝ }
+{
+    put_two(buffer, at, word);
+    put_four(buffer, at + 2, word / 65536);
+}
+
+// The stores are those that the checksum reads back.
+fn put_all(buffer: &mut [u8], channels: &[u16; COUNT])
+    requires { ⌜ channelsSize ≤ length (now buffer) ⌝ }
+    requires { ⌜ Below 11 (now channels) ⌝ }
+    ensures { λ _. ⌜ now (buffer .exit) ≡ pasted (now (buffer .entry)) 0 (channelBytes (now (channels .entry))) ⌝ }
+{
+    put_six(buffer, 0, first_word(channels));
+    put_eight(buffer, 6, middle_word(channels));
+    put_eight(buffer, 14, last_word(channels));
 }
 
 // What 11 bits have of each channel.
@@ -165,8 +219,7 @@ impl RcChannelsPacked {
         }
         let packed = self.0;
         let low = low_bits(packed);
-        put_group(buffer, &low, 0);
-        put_group(buffer, &low, 11);
+        put_all(buffer, &low);
     }
 
     pub fn to_bytes(self, buffer: &mut [u8]) -> Written
@@ -180,8 +233,7 @@ impl RcChannelsPacked {
         if buffer.len() < Self::MIN_PAYLOAD_SIZE {
             return Written::Refused(Refusal::BufferOverflow);
         }
-        put_group(buffer, &packed, 0);
-        put_group(buffer, &packed, 11);
+        put_all(buffer, &packed);
         Written::Wrote(Self::MIN_PAYLOAD_SIZE)
     }
 }

@@ -1,6 +1,6 @@
--- `channels::RcChannelsPacked::put` meets its contract: two groups of eleven bytes are the 22.
+-- `channels::RcChannelsPacked::put` meets its contract.
 -- Assumes nothing.
-use mathlib.Core.Path.{_≡_, sym, subst, _∙_}
+use mathlib.Core.Path.{_≡_, sym, subst}
 use mathlib.Core.List.{List}
 use Prim.Native.Nat.{ℕ, _≤_}
 use native.Mathlib.Omega.{arith}
@@ -10,7 +10,6 @@ use Rattle.base.proofs.Parts.{placed-fits, placed-short}
 use Rattle.channels.specs.Digits.{number, Below}
 use Rattle.channels.specs.Channels.{channelsSize, channelBytes, lowBits}
 use Rattle.channels.proofs.Digits.{length-digits}
-use Rattle.channels.proofs.Fill.{two-halves}
 use Rattle.channels.proofs.Laws.{low-below}
 use Rattle.channels.proofs.RcChannelsPacked.put.Statement.{statement}
 use Rattle.channels.proofs.RcChannelsPacked.put.Tie as tie
@@ -33,32 +32,21 @@ returns c =
 low-bits-requires : tie.Need-low-bits-requires
 low-bits-requires c κs = search needs
 
-slice-aggregate-put-group : tie.Need-slice-aggregate-put-group
-slice-aggregate-put-group c = search needs
-
-put-group-requires : tie.Need-put-group-requires
-put-group-requires c κs = (search needs, in-range (c .before .before))
-
-slice-aggregate-put-group-2 : tie.Need-slice-aggregate-put-group-2
-slice-aggregate-put-group-2 c = search needs
-
-put-group-requires-2 : tie.Need-put-group-requires-2
-put-group-requires-2 c κs = (search needs, in-range (c .before .before .before .before .before .before .before))
+put-all-requires : tie.Need-put-all-requires
+put-all-requires c κs = (omega arith, in-range (c .before .before))
 
 same-length : tie.Need-same-length
 same-length c = search needs
 
 returns-2 : tie.Need-returns-2
 returns-2 c =
-    let second = c .before .before in
-    let first = second .before .before .before .before .before in
-    let low = first .before .before .before in
+    let last = c .before .before in
+    let low = last .before .before .before in
     let a = Start-of low .args in
     let d : List ℕ = a .buffer .now in
     let s : List ℕ = channelBytes (lowBits (a .self .0)) in
     let room : channelsSize ≤ length d = low .before .before .if1 .left in
-    rw (second .put-group2 .ensures, first .put-group .ensures, low .low-bits .ensures)
-    (two-halves s d 11 (all (lowBits (a .self .0))) (omega arith) ∙ sym (placed-fits d 0 s (omega (arith, all (lowBits (a .self .0))))))
+    rw (last .put-all .ensures, low .low-bits .ensures) (sym (placed-fits d 0 s (omega (arith, all (lowBits (a .self .0))))))
 
 pub put-spec : {M : Type 1} → statement M
 put-spec =
@@ -66,9 +54,6 @@ put-spec =
     (tie.spec
     returns
     low-bits-requires
-    slice-aggregate-put-group
-    put-group-requires
-    slice-aggregate-put-group-2
-    put-group-requires-2
+    put-all-requires
     same-length
     returns-2)

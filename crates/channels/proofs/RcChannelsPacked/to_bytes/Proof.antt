@@ -1,4 +1,4 @@
--- `channels::RcChannelsPacked::to_bytes` meets its contract: two groups of eleven bytes are the 22.
+-- `channels::RcChannelsPacked::to_bytes` meets its contract.
 -- Assumes nothing.
 use mathlib.Core.Path.{_≡_, ap, _∙_}
 use mathlib.Core.List.{List}
@@ -6,7 +6,6 @@ use Prim.Native.Nat.{ℕ, _≤_}
 use native.Mathlib.Omega.{arith}
 use borrow.Author.Needs.{needs}
 use lib.ListN.{length}
-use Rattle.base.specs.Parts.{pasted}
 use Rattle.writing.specs.Writing.{writtenRow}
 use Rattle.writing.specs.declared.Written.the-variants.{Wrote}
 use Rattle.writing.proofs.Writing.{writes, overflows, refuses}
@@ -14,7 +13,6 @@ use Rattle.channels.specs.Digits.{number, Below}
 use Rattle.channels.specs.Channels.{channelsCount, channelsSize, channelBytes, firstAbove}
 use Rattle.channels.proofs.Digits.{length-digits}
 use Rattle.channels.proofs.FirstAbove.{none-above}
-use Rattle.channels.proofs.Fill.{two-halves}
 use Rattle.channels.proofs.Laws.{image-refused, image-bytes}
 use Rattle.channels.proofs.RcChannelsPacked.to_bytes.Statement.{statement}
 use Rattle.channels.proofs.RcChannelsPacked.to_bytes.Tie as tie
@@ -52,41 +50,21 @@ returns-2 c =
     rw (image-bytes (start .self) (good (c .before)))
     (overflows (channelBytes (start .self .0)) (start .buffer .now) channelsSize (wrote (c .before)) (omega arith))
 
-slice-aggregate-put-group : tie.Need-slice-aggregate-put-group
-slice-aggregate-put-group c = search needs
-
-put-group-requires : tie.Need-put-group-requires
-put-group-requires c κs =
-    let room = c .before .before in
-    let right = room .before in
-    (search needs, in-range right)
-
-slice-aggregate-put-group-2 : tie.Need-slice-aggregate-put-group-2
-slice-aggregate-put-group-2 c = search needs
-
-put-group-requires-2 : tie.Need-put-group-requires-2
-put-group-requires-2 c κs =
-    let first = c .before .before .before .before in
-    let room = first .before .before .before in
-    let right = room .before in
-    (search needs, in-range right)
+put-all-requires : tie.Need-put-all-requires
+put-all-requires c κs = (omega arith, in-range (c .before .before .before))
 
 same-length : tie.Need-same-length
 same-length c = search needs
 
 returns-3 : tie.Need-returns-3
 returns-3 c =
-    let second = c .before .before in
-    let first = second .before .before .before .before .before in
-    let room = first .before .before .before in
-    let right = room .before in
+    let last = c .before .before in
+    let right = last .before .before .before .before in
     let start = Start-of right .args in
     let d : List ℕ = start .buffer .now in
     let s : List ℕ = channelBytes (start .self .0) in
-    let stored : second .put-group2 .last .0 ≡ pasted d 0 s =
-    rw (second .put-group2 .ensures, first .put-group .ensures) (two-halves s d 11 (wrote right) (omega arith)) in
     rw (image-bytes (start .self) (good right))
-    (ap (λ (l : List ℕ). (writtenRow (Wrote channelsSize), l)) stored ∙ writes s d channelsSize (wrote right) (omega arith))
+    (ap (λ (l : List ℕ). (writtenRow (Wrote channelsSize), l)) (last .put-all .ensures) ∙ writes s d channelsSize (wrote right) (omega arith))
 
 pub to-bytes-spec : {M : Type 1} → statement M
 to-bytes-spec =
@@ -96,9 +74,6 @@ to-bytes-spec =
     first-above-requires
     returns
     returns-2
-    slice-aggregate-put-group
-    put-group-requires
-    slice-aggregate-put-group-2
-    put-group-requires-2
+    put-all-requires
     same-length
     returns-3)
