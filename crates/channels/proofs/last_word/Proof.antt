@@ -1,7 +1,7 @@
 -- `channels::last_word` meets its contract: the channels that it reads hold the bits of bytes 14 to 21.
 -- Assumes nothing.
-use mathlib.Core.Path.{_≡_, _∙_}
-use Prim.Native.Nat.{_*_, _/_, _%_, _^_, _+_}
+use mathlib.Core.Path.{_∙_}
+use Prim.Native.Nat.{_*_, _/_, _^_, _+_}
 use native.Mathlib.Omega.{arith}
 use borrow.Author.Needs.{needs}
 use Rattle.channels.specs.Digits.{number}

@@ -1,6 +1,6 @@
 -- `channels::middle_word` meets its contract: the channels that it reads hold the bits of bytes 6 to 13.
 -- Assumes nothing.
-use mathlib.Core.Path.{_≡_, _∙_}
+use mathlib.Core.Path.{_∙_}
 use Prim.Native.Nat.{_*_, _/_, _%_, _^_, _+_}
 use native.Mathlib.Omega.{arith}
 use borrow.Author.Needs.{needs}

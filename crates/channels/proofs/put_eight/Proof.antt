@@ -1,6 +1,5 @@
 -- `channels::put_eight` meets its contract: four bytes and four behind them.
 -- Assumes nothing.
-use Prim.Native.Nat.{ℕ}
 use native.Mathlib.Omega.{arith}
 use borrow.Author.Needs.{needs}
 use Rattle.channels.proofs.Fill.{more-digits}

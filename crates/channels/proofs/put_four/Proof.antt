@@ -1,6 +1,5 @@
 -- `channels::put_four` meets its contract: two bytes and two behind them.
 -- Assumes nothing.
-use Prim.Native.Nat.{ℕ}
 use native.Mathlib.Omega.{arith}
 use borrow.Author.Needs.{needs}
 use Rattle.channels.proofs.Fill.{more-digits}
