@@ -34,7 +34,7 @@
  *     crsf_pack_altitude                 24        crsf_baro_decimetres               24
  *     crsf_gps_metres                    24        crsf_channel_microseconds          24
  *     crsf_raw_view                      24        crsf_write_link_statistics        136
- *     crsf_write_rc_channels_packed     136        crsf_write_rc_channels_burst        0
+ *     crsf_write_rc_channels_packed     152        crsf_write_rc_channels_burst      152
  *     crsf_write_gps                    120        crsf_write_gps_extended           168
  *     crsf_write_battery                 72        crsf_write_baro_altitude           40
  *     crsf_write_rpm                     72        crsf_write_temp                    72
