@@ -104,7 +104,7 @@ fn last_word(channels: &[u16; COUNT]) -> u64
     three(channels, 10) / 4 + three(channels, 13) * 2147483648
 }
 
-// The low bytes of a word, the lowest first. The compiler makes one store of two, of four and of eight; not of a loop.
+// The low bytes of a word, the lowest first. Written out so, they are stored by twos and fours; in a loop each was a store of its own.
 fn put_two(buffer: &mut [u8], at: usize, word: u64)
     requires { ⌜ at + 2 ≤ length (now buffer) ⌝ }
     ensures { λ _. ⌜ now (buffer .exit) ≡ pasted (now (buffer .entry)) at (digits 8 2 word) ⌝ }
@@ -137,7 +137,7 @@ fn put_six(buffer: &mut [u8], at: usize, word: u64)
     put_four(buffer, at + 2, word / 65536);
 }
 
-// The stores are those that the checksum reads back.
+// The 22 bytes: six, eight and eight.
 fn put_all(buffer: &mut [u8], channels: &[u16; COUNT])
     requires { ⌜ channelsSize ≤ length (now buffer) ⌝ }
     requires { ⌜ Below 11 (now channels) ⌝ }
