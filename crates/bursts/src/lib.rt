@@ -1,6 +1,5 @@
 // A burst: RC channels of up to eight sets as frames one after another. All or nothing, and nothing past the last frame.
 use base::copy_u16;
-use base::narrow;
 use channels::RcChannelsPacked;
 use frames::CHANNELS_FRAME;
 use frames::put_rc_channels;
@@ -83,13 +82,12 @@ pub fn write_rc_channels_burst_values(
     if channels.len() < count * CHANNELS {
         return Written::Refused(Refusal::InvalidPayloadLength);
     }
-    let set = first_bad(channels, count);
-    if set < count {
-        let channel = set_at(channels, set * CHANNELS).first_above();
-        return Written::Refused(Refusal::SetChannelRange {
-            set: narrow(set),
-            channel: narrow(channel),
-        });
+    let bad = first_bad(channels, count);
+    if bad < count {
+        let above = set_at(channels, bad * CHANNELS).first_above();
+        let set = bad as u16;
+        let channel = above as u16;
+        return Written::Refused(Refusal::SetChannelRange { set, channel });
     }
     let size = count * CHANNELS_FRAME;
     if buffer.len() < size {

@@ -12,8 +12,6 @@ pub enum Refusal {
     BufferOverflow,
     // The place of the first channel that is too large.
     ChannelRange(usize),
-    // The same of several sets: the first set that has one, and its place there. Two bytes: a refusal that is longer makes every writer slower.
-    SetChannelRange { set: u8, channel: u8 },
     BadAddress,
     BadState,
     // A log that is none: a malformed number, another first number than 1, an end where none may be, a byte behind the end.
@@ -22,6 +20,9 @@ pub enum Refusal {
     InvalidFrame,
     // A capacity that has no room in a battery's 24 bits.
     CapacityRange,
+    // As ChannelRange, of several sets: the first set that has such a channel, and its place there. Its two numbers are as narrow as they are for the
+    // machine code's sake (docs/SPEED.md).
+    SetChannelRange { set: u16, channel: u16 },
 }
 
 // A refusal as numbers: its own, and what it carries; 0 where it carries no more.
@@ -79,15 +80,6 @@ pub fn row_of(refusal: Refusal) -> Row
             first: index,
             second: 0,
         },
-        Refusal::SetChannelRange { set, channel } => {
-            let first = set as usize;
-            let second = channel as usize;
-            Row {
-                number: 6,
-                first,
-                second,
-            }
-        }
         Refusal::BadAddress => Row {
             number: 7,
             first: 0,
@@ -113,5 +105,14 @@ pub fn row_of(refusal: Refusal) -> Row
             first: 0,
             second: 0,
         },
+        Refusal::SetChannelRange { set, channel } => {
+            let first = set as usize;
+            let second = channel as usize;
+            Row {
+                number: 6,
+                first,
+                second,
+            }
+        }
     }
 }

@@ -4,7 +4,6 @@ use mathlib.Core.Path.{_≡_, sym, ap, ap₂, _∙_}
 use mathlib.Core.Bool.{true}
 use mathlib.Core.List.{List, []}
 use Prim.Native.Nat.{ℕ, _*_, _≤_, _<_}
-use native.Mathlib.Nat.{mod-eq-of-lt}
 use native.Mathlib.Omega.{arith}
 use borrow.Author.Needs.{needs}
 use borrow.Author.Tests.{ltb-true, not-true, not-false}
@@ -98,33 +97,44 @@ set-at-requires c κs = search needs
 first-above-requires : tie.Need-first-above-requires
 first-above-requires c κs = search needs
 
-narrow-requires : tie.Need-narrow-requires
-narrow-requires c κs = search needs
+-- the first bad set, and the place of its first bad channel
+module _ (c : tie.After-first-above) where
+  abbrev found : tie.After-first-bad
+  found = c .before .before .before
 
-narrow-requires-2 : tie.Need-narrow-requires-2
-narrow-requires-2 c κs = search needs
+  abbrev enough : tie.Else3
+  enough = found .before
+
+  abbrev sets : List (List ℕ)
+  sets = Counted enough
+
+  set-is : found .first-bad .result ≡ firstBad sets
+  set-is = found .first-bad .ensures
+
+  less : firstBad sets < length sets
+  less = omega (arith, set-is, all-there enough, c .before .before .if4 .taken)
+
+  place : firstAbove (getD sets (firstBad sets) []) < channelsCount
+  place = ltb-true (firstAbove (getD sets (firstBad sets) [])) channelsCount (first-found bad [] sets less)
+
+  place-is : c .first-above .result ≡ firstAbove (getD sets (firstBad sets) [])
+  place-is =
+      c .first-above .ensures
+      ∙ ap (λ (set : RcChannelsPacked). firstAbove (set .0)) (c .before .set-at .ensures)
+      ∙ ap firstAbove (sym (sixteens-at (Begin enough .args .count) (Begin enough .args .channels .now) (found .first-bad .result) (c .before .before .if4 .taken)))
+      ∙ ap (λ (j : ℕ). firstAbove (getD sets j [])) set-is
+
+cast-set : tie.Need-cast-set
+cast-set c = omega (arith, set-is c, less c, all-there (enough c), enough c .before .if2 .left)
+
+cast-channel : tie.Need-cast-channel
+cast-channel c = omega (arith, place-is c, place c)
 
 returns-4 : tie.Need-returns-4
 returns-4 c =
-    let asked = c .before .before in
-    let some = asked .before .before in
-    let found = some .before in
-    let enough = found .before in
-    let a = Begin enough .args in
-    let sets = Counted enough in
-    let k = found .first-bad .ensures in
-    let i =
-    asked .first-above .ensures
-    ∙ ap (λ (set : RcChannelsPacked). firstAbove (set .0)) (asked .before .set-at .ensures)
-    ∙ ap firstAbove (sym (sixteens-at (a .count) (a .channels .now) (found .first-bad .result) (some .if4 .taken)))
-    ∙ ap (λ (j : ℕ). firstAbove (getD sets j [])) k in
-    let less : firstBad sets < length sets = omega (arith, k, all-there enough, some .if4 .taken) in
-    let place = ltb-true (firstAbove (getD sets (firstBad sets) [])) channelsCount (first-found bad [] sets less) in
-    let few = enough .before .if2 .left in
-    let set-is : c .before .narrow .result ≡ firstBad sets = c .before .narrow .ensures ∙ mod-eq-of-lt (omega (arith, k, less, all-there enough, few)) ∙ k in
-    let place-is : c .narrow2 .result ≡ firstAbove (getD sets (firstBad sets) []) = c .narrow2 .ensures ∙ mod-eq-of-lt (omega (arith, i, place)) ∙ i in
-    rw (image-is enough, sets-refused (a .dest) sets less)
-    (ap₂ (λ (x y : ℕ). (writtenRow (Refused (SetChannelRange x y)), a .buffer .now)) set-is place-is ∙ refuses _ (a .buffer .now))
+    let a = Begin (enough c) .args in
+    rw (image-is (enough c), sets-refused (a .dest) (sets c) (less c))
+    (ap₂ (λ (x y : ℕ). (writtenRow (Refused (SetChannelRange x y)), a .buffer .now)) (set-is c) (place-is c) ∙ refuses _ (a .buffer .now))
 
 mul-size : tie.Need-mul-size
 mul-size c = search needs
@@ -168,8 +178,8 @@ write-rc-channels-burst-values-spec =
     mul-set-at
     set-at-requires
     first-above-requires
-    narrow-requires
-    narrow-requires-2
+    cast-set
+    cast-channel
     returns-4
     mul-size
     returns-5

@@ -40,15 +40,6 @@ enum-told-2 c = search needs
 enum-known-refusal-4 : tie.Need-enum-known-refusal-4
 enum-known-refusal-4 c = search needs
 
-enum-known-refusal-5 : tie.Need-enum-known-refusal-5
-enum-known-refusal-5 c = search needs
-
-cast-first-4 : tie.Need-cast-first-4
-cast-first-4 c = search needs
-
-cast-second-2 : tie.Need-cast-second-2
-cast-second-2 c = search needs
-
 enum-told-3 : tie.Need-enum-told-3
 enum-told-3 c = search needs
 
@@ -63,6 +54,15 @@ enum-told-6 c = search needs
 
 enum-told-7 : tie.Need-enum-told-7
 enum-told-7 c = search needs
+
+enum-known-refusal-5 : tie.Need-enum-known-refusal-5
+enum-known-refusal-5 c = search needs
+
+cast-first-4 : tie.Need-cast-first-4
+cast-first-4 c = search needs
+
+cast-second-2 : tie.Need-cast-second-2
+cast-second-2 c = search needs
 
 returns : tie.Need-returns
 returns c = sym (ap says (c .before .refusal .given .1))
@@ -83,22 +83,22 @@ returns-6 : tie.Need-returns-6
 returns-6 c = sym (ap says (c .before .refusal4 .given .1))
 
 returns-7 : tie.Need-returns-7
-returns-7 c = sym (ap says (c .before .refusal5 .given .1))
+returns-7 c = sym (ap says (c .enum-told3 .given .1))
 
 returns-8 : tie.Need-returns-8
-returns-8 c = sym (ap says (c .enum-told3 .given .1))
+returns-8 c = sym (ap says (c .enum-told4 .given .1))
 
 returns-9 : tie.Need-returns-9
-returns-9 c = sym (ap says (c .enum-told4 .given .1))
+returns-9 c = sym (ap says (c .enum-told5 .given .1))
 
 returns-10 : tie.Need-returns-10
-returns-10 c = sym (ap says (c .enum-told5 .given .1))
+returns-10 c = sym (ap says (c .enum-told6 .given .1))
 
 returns-11 : tie.Need-returns-11
-returns-11 c = sym (ap says (c .enum-told6 .given .1))
+returns-11 c = sym (ap says (c .enum-told7 .given .1))
 
 returns-12 : tie.Need-returns-12
-returns-12 c = sym (ap says (c .enum-told7 .given .1))
+returns-12 c = sym (ap says (c .before .refusal5 .given .1))
 
 pub row-of-spec : {M : Type 1} → statement M
 row-of-spec =
@@ -114,14 +114,14 @@ row-of-spec =
     enum-told
     enum-told-2
     enum-known-refusal-4
-    enum-known-refusal-5
-    cast-first-4
-    cast-second-2
     enum-told-3
     enum-told-4
     enum-told-5
     enum-told-6
     enum-told-7
+    enum-known-refusal-5
+    cast-first-4
+    cast-second-2
     returns
     returns-2
     returns-3
