@@ -43,7 +43,7 @@
  *     crsf_read_gps_extended             24        crsf_read_battery                  24
  *     crsf_read_baro_altitude            24        crsf_read_rpm                      24
  *     crsf_read_temp                     64        crsf_read_voltages                 88
- *     crsf_log_next                     264        crsf_log_end                      184
+ *     crsf_log_next                     296        crsf_log_end                      168
  *     crsf_log_reset                     24        crsf_log_start                     24
  *     crsf_log_entry                    232
  */
