@@ -9,7 +9,7 @@ use lib.Dec.{eqb}
 use lib.ListN.{length, getD}
 use Rattle.base.specs.Choice.{if_then_else_}
 use Rattle.refusals.specs.declared.Refusal.{Refusal}
-use Rattle.refusals.specs.declared.Refusal.the-variants.{InvalidSync, InvalidPacketLength, InvalidCrc, InvalidPayloadLength, BufferOverflow, ChannelRange, BadAddress, BadState, InvalidLog, InvalidFrame, CapacityRange, SetChannelRange}
+use Rattle.refusals.specs.declared.Refusal.the-variants.{InvalidSync, InvalidPacketLength, InvalidCrc, InvalidPayloadLength, BufferOverflow, ChannelRange, BadAddress, BadState, InvalidLog, InvalidFrame, CapacityRange, SetChannelRange, PositionRange}
 use Rattle.refusals.specs.Row.{rowOf, numberOf}
 
 -- the refusal that a row is of; of a row that no refusal has, any
@@ -26,6 +26,7 @@ refusalOf row =
     if eqb (getD row 0 0) 9 then InvalidLog else
     if eqb (getD row 0 0) 10 then InvalidFrame else
     if eqb (getD row 0 0) 11 then CapacityRange else
+    if eqb (getD row 0 0) 12 then PositionRange else
     InvalidSync 0
 
 pub back : (r : Refusal) → refusalOf (rowOf r) ≡ r
@@ -41,6 +42,7 @@ back BadState = refl
 back InvalidLog = refl
 back InvalidFrame = refl
 back CapacityRange = refl
+back PositionRange = refl
 
 pub one-refusal : {r s : Refusal} → rowOf r ≡ rowOf s → r ≡ s
 one-refusal {r} {s} same = sym (back r) ∙ ap refusalOf same ∙ back s
@@ -59,6 +61,7 @@ number-bounds BadState = omega arith
 number-bounds InvalidLog = omega arith
 number-bounds InvalidFrame = omega arith
 number-bounds CapacityRange = omega arith
+number-bounds PositionRange = omega arith
 
 pub not-zero : (r : Refusal) {values : List ℕ} → rowOf r ≡ 0 ∷ values → ⊥
 not-zero r {values} e =

@@ -4,7 +4,7 @@ use Prim.Native.Nat.{ℕ}
 use mathlib.Core.List.{List, [], _∷_}
 use lib.ListN.{getD}
 use Rattle.refusals.specs.declared.Refusal.{Refusal}
-use Rattle.refusals.specs.declared.Refusal.the-variants.{InvalidSync, InvalidPacketLength, InvalidCrc, InvalidPayloadLength, BufferOverflow, ChannelRange, BadAddress, BadState, InvalidLog, InvalidFrame, CapacityRange, SetChannelRange}
+use Rattle.refusals.specs.declared.Refusal.the-variants.{InvalidSync, InvalidPacketLength, InvalidCrc, InvalidPayloadLength, BufferOverflow, ChannelRange, BadAddress, BadState, InvalidLog, InvalidFrame, CapacityRange, SetChannelRange, PositionRange}
 use Rattle.refusals.specs.declared.Row.{Row}
 
 -- the number, then what is carried. A channel that is too large has one number, whether it stands in one set or in several
@@ -21,6 +21,7 @@ rowOf BadState = 8 ∷ []
 rowOf InvalidLog = 9 ∷ []
 rowOf InvalidFrame = 10 ∷ []
 rowOf CapacityRange = 11 ∷ []
+rowOf PositionRange = 12 ∷ []
 
 abbrev pub numberOf : Refusal → ℕ
 numberOf r = getD (rowOf r) 0 0

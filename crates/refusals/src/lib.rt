@@ -23,6 +23,8 @@ pub enum Refusal {
     // As ChannelRange, of several sets: the first set that has such a channel, and its place there. Its two numbers are as narrow as they are for the
     // machine code's sake (docs/SPEED.md).
     SetChannelRange { set: u16, channel: u16 },
+    // A stream whose bytes would be numbered past 2^64 - 1.
+    PositionRange,
 }
 
 // A refusal as numbers: its own, and what it carries; 0 where it carries no more.
@@ -114,5 +116,10 @@ pub fn row_of(refusal: Refusal) -> Row
                 second,
             }
         }
+        Refusal::PositionRange => Row {
+            number: 12,
+            first: 0,
+            second: 0,
+        },
     }
 }

@@ -64,6 +64,9 @@ cast-first-4 c = search needs
 cast-second-2 : tie.Need-cast-second-2
 cast-second-2 c = search needs
 
+enum-told-8 : tie.Need-enum-told-8
+enum-told-8 c = search needs
+
 returns : tie.Need-returns
 returns c = sym (ap says (c .before .refusal .given .1))
 
@@ -100,6 +103,9 @@ returns-11 c = sym (ap says (c .enum-told7 .given .1))
 returns-12 : tie.Need-returns-12
 returns-12 c = sym (ap says (c .before .refusal5 .given .1))
 
+returns-13 : tie.Need-returns-13
+returns-13 c = sym (ap says (c .enum-told8 .given .1))
+
 pub row-of-spec : {M : Type 1} → statement M
 row-of-spec =
     tie.close
@@ -122,6 +128,7 @@ row-of-spec =
     enum-known-refusal-5
     cast-first-4
     cast-second-2
+    enum-told-8
     returns
     returns-2
     returns-3
@@ -133,4 +140,5 @@ row-of-spec =
     returns-9
     returns-10
     returns-11
-    returns-12)
+    returns-12
+    returns-13)
