@@ -1,0 +1,5 @@
+-- `Within`: what the test says. `Counts`: what a call dropped, as the code counts it. `Unique`: one answer.
+pub mod Within
+pub mod Counts
+pub mod Steps
+pub mod Unique

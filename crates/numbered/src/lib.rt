@@ -44,13 +44,7 @@ fn stay(start: usize, end: usize, position: u64, refusal: Refusal) -> Advanced
 }
 
 // One call over lent places, whose count is the limit of a frame. What it dropped is what was held and taken, less what is held.
-pub fn step_at(
-    places: &mut [u8],
-    start: usize,
-    end: usize,
-    position: u64,
-    input: &[u8],
-) -> Advanced
+pub fn step_at(places: &mut [u8], start: usize, end: usize, position: u64, input: &[u8]) -> Advanced
     ensures { λ r. ⌜ StepsAt (length (now (places .entry))) (now (places .entry)) start end position (now (input .entry)) (now (places .exit)) r ⌝ }
 {
     if !is_span(places.len(), start, end) {

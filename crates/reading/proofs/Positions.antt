@@ -10,9 +10,9 @@ use borrow.Author.Tests.{le-leb}
 use lib.ListN.{length, take, drop, length-append, length-drop}
 use lib.Seq.{drop-drop, drop-append-seam}
 use Rattle.reading.specs.Answer.{Answer, drops, allDropped}
-use Rattle.reading.specs.Reading.{stop, says, first, Reading, reading}
-use Rattle.reading.specs.Call.{call}
-use Rattle.reading.specs.History.{History}
+use Rattle.reading.specs.Reading.{First, stop, says, first, Reading, reading}
+use Rattle.reading.specs.Call.{droppedBy}
+use Rattle.reading.specs.History.{answered, History}
 use Rattle.reading.specs.Positions.{greatest, behind, numbered, isWithin, Positioned}
 use Rattle.reading.proofs.First.{stands}
 use Rattle.reading.proofs.Reading.{heads, at-stop, at-says, by-reading}
@@ -52,6 +52,12 @@ rises p [] (w ∷ xs) x ys y zs e = absurd (nil≢cons e)
 rises p (c ∷ more) [] x ys y zs e =
     subst (λ (z : ℕ × Answer). z .0 + drops (z .1) ≤ y .0) (head-eq-of-cons-eq e) (first-at (p + drops c) more ys y zs (tail-eq-of-cons-eq e))
 rises p (c ∷ more) (w ∷ xs) x ys y zs e = rises (p + drops c) more xs x ys y zs (tail-eq-of-cons-eq e)
+
+-- behind a call: what its answer, if any, dropped
+pub behind-call : (p : ℕ) (f : First) → behind p (answered f) ≡ p + droppedBy f
+unfolding answered droppedBy
+behind-call p stop = omega arith
+behind-call p (says a) = refl
 
 -- ---- The reading
 
