@@ -16,6 +16,13 @@ pub struct Advanced {
     pub position: u64,
 }
 
+// What a call says, how many bytes of the input it took, and where its answer began: at the position before the call.
+pub struct Answered {
+    pub position: u64,
+    pub taken: usize,
+    pub reply: Reply,
+}
+
 // Whether all bytes can be numbered: those held from a position on, and those offered. No sum is made that might have no room.
 pub fn is_within(position: u64, held: usize, input: usize) -> bool
     ensures { λ r. ⌜ r ≡ isWithin position held input ⌝ }

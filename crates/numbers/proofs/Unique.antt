@@ -10,6 +10,7 @@ use Rattle.numbers.proofs.get_u8.Reads as get-u8
 use Rattle.numbers.proofs.get_u16.Reads as get-u16
 use Rattle.numbers.proofs.get_u24.Reads as get-u24
 use Rattle.numbers.proofs.get_u32.Reads as get-u32
+use Rattle.numbers.proofs.get_u64.Reads as get-u64
 use Rattle.numbers.proofs.get_signed.Reads as get-signed
 use Rattle.numbers.proofs.get_i8.Reads as get-i8
 use Rattle.numbers.proofs.get_i16.Reads as get-i16
@@ -20,6 +21,7 @@ use Rattle.numbers.proofs.put_u8.Reads as put-u8
 use Rattle.numbers.proofs.put_u16.Reads as put-u16
 use Rattle.numbers.proofs.put_u24.Reads as put-u24
 use Rattle.numbers.proofs.put_u32.Reads as put-u32
+use Rattle.numbers.proofs.put_u64.Reads as put-u64
 use Rattle.numbers.proofs.put_signed.Reads as put-signed
 use Rattle.numbers.proofs.put_i8.Reads as put-i8
 use Rattle.numbers.proofs.put_i16.Reads as put-i16
@@ -42,6 +44,9 @@ get-u24-one κs a r r′ s s′ = same
 
 pub get-u32-one : OneAnswer {Seen = ℕ} get-u32.Post (λ κs r s. r)
 get-u32-one κs a r r′ s s′ = same
+
+pub get-u64-one : OneAnswer {Seen = ℕ} get-u64.Post (λ κs r s. r)
+get-u64-one κs a r r′ s s′ = same
 
 pub get-signed-one : OneAnswer {Seen = ℤ} get-signed.Post (λ κs r s. r)
 get-signed-one κs a r r′ s s′ = same
@@ -74,6 +79,9 @@ put-u24-one κs a r r′ s s′ = same
 
 pub put-u32-one : OneAnswer {Seen = List ℕ} put-u32.Post (λ κs r s. now (s .0))
 put-u32-one κs a r r′ s s′ = same
+
+pub put-u64-one : OneAnswer {Seen = List ℕ} put-u64.Post (λ κs r s. now (s .0))
+put-u64-one κs a r r′ s s′ = same
 
 pub put-signed-one : OneAnswer {Seen = List ℕ} put-signed.Post (λ κs r s. now (s .0))
 put-signed-one κs a r r′ s s′ = same

@@ -1,4 +1,4 @@
-// Numbers of 1 to 4 bytes in a slice, highest byte first. One reader and one writer serve every width. Bytes that a slice lacks are not read, and a
+// Numbers of 1 to 4 bytes, or of 8, in a slice, highest byte first. One reader and one writer serve every width. Bytes that a slice lacks are not read, and a
 // number that has no room is not written at all.
 ghost use mathlib.Core.Path.{_≡_};
 ghost use Prim.Native.Nat.{_+_, _/_, _^_, _≤_, _<_};
@@ -8,10 +8,10 @@ ghost use Rattle.numbers.specs.BigEndian.{beOf, bytesOf};
 ghost use Rattle.numbers.specs.TwosComplement.{signedOf, twosOf};
 ghost use Rattle.base.specs.Parts.{part, pasted, placed};
 
-fn wide(b: u8) -> u32
+fn wide(b: u8) -> u64
     ensures { λ r. ⌜ r ≡ b ⌝ }
 {
-    b as u32
+    b as u64
 }
 
 // The width from 1 to 4 that is nearest.
@@ -27,11 +27,11 @@ fn width_of(width: usize) -> usize
     width
 }
 
-fn read(s: &[u8], at: usize, width: usize) -> u32
-    requires { ⌜ (width ≤ 4) × (at + width ≤ length (now s)) ⌝ }
+fn read(s: &[u8], at: usize, width: usize) -> u64
+    requires { ⌜ (width ≤ 8) × (at + width ≤ length (now s)) ⌝ }
     ensures { λ r. ⌜ r ≡ beOf (part (now (s .entry)) at width) ⌝ }
 {
-    let mut n: u32 = 0;
+    let mut n: u64 = 0;
     let mut i = 0;
     while i < width {
         n = n * 256 + wide(s[at + i]);
@@ -40,18 +40,25 @@ fn read(s: &[u8], at: usize, width: usize) -> u32
     n
 }
 
-// The unsigned number of the `width` bytes from `at`, or of those that are there.
-pub fn get(s: &[u8], at: usize, width: usize) -> u32
-    ensures { λ r. ⌜ r ≡ beOf (part (now (s .entry)) at (widthOf width)) ⌝ }
+// The number of the `width` bytes from `at`, or of those that are there.
+fn read_some(s: &[u8], at: usize, width: usize) -> u64
+    requires { ⌜ width ≤ 8 ⌝ }
+    ensures { λ r. ⌜ r ≡ beOf (part (now (s .entry)) at width) ⌝ }
 {
-    let whole = width_of(width);
-    if base::fits(s.len(), at, whole) {
-        return read(s, at, whole);
+    if base::fits(s.len(), at, width) {
+        return read(s, at, width);
     }
     if s.len() < at {
         return 0;
     }
     read(s, at, s.len() - at)
+}
+
+// The unsigned number of the `width` bytes from `at`, or of those that are there.
+pub fn get(s: &[u8], at: usize, width: usize) -> u32
+    ensures { λ r. ⌜ r ≡ beOf (part (now (s .entry)) at (widthOf width)) ⌝ }
+{
+    read_some(s, at, width_of(width)) as u32
 }
 
 pub fn get_u8(s: &[u8], at: usize) -> u8
@@ -78,8 +85,14 @@ pub fn get_u32(s: &[u8], at: usize) -> u32
     get(s, at, 4)
 }
 
+pub fn get_u64(s: &[u8], at: usize) -> u64
+    ensures { λ r. ⌜ r ≡ beOf (part (now (s .entry)) at 8) ⌝ }
+{
+    read_some(s, at, 8)
+}
+
 // From the last byte to the first.
-fn write(out: &mut [u8], at: usize, width: usize, n: u32)
+fn write(out: &mut [u8], at: usize, width: usize, n: u64)
     requires { ⌜ at + width ≤ length (now out) ⌝ }
     ensures { λ _. ⌜ now (out .exit) ≡ pasted (now (out .entry)) at (bytesOf width n) ⌝ }
 {
@@ -98,7 +111,7 @@ pub fn put(out: &mut [u8], at: usize, width: usize, n: u32)
 {
     let whole = width_of(width);
     if base::fits(out.len(), at, whole) {
-        write(out, at, whole, n);
+        write(out, at, whole, n as u64);
     }
 }
 
@@ -125,6 +138,14 @@ pub fn put_u32(out: &mut [u8], at: usize, v: u32)
     ensures { λ _. ⌜ now (out .exit) ≡ placed (now (out .entry)) at (bytesOf 4 v) ⌝ }
 {
     put(out, at, 4, v);
+}
+
+pub fn put_u64(out: &mut [u8], at: usize, v: u64)
+    ensures { λ _. ⌜ now (out .exit) ≡ placed (now (out .entry)) at (bytesOf 8 v) ⌝ }
+{
+    if base::fits(out.len(), at, 8) {
+        write(out, at, 8, v);
+    }
 }
 
 // The first number of a width that stands for a negative one: half of the width's numbers lie below it.

@@ -24,13 +24,13 @@ unfolding beOf
 loop-holds c = (omega arith, refl)
 
 -- the bytes that a turn has read leave room for one more
-room : (c : tie.In-loop Inv-loop μ-loop) → c .before .loop .n < 256 ^ 3
+room : (c : tie.In-loop Inv-loop μ-loop) → c .before .loop .n < 256 ^ 7
 room c =
     let start = c .before .before .before in
     let l = c .before .loop in
     let bytes : Bytes (start .args .s .now) = λ i. c .before .before .shared-slice-known .given i .fits in
     let here = beOf-part-lt (start .args .s .now) (start .args .at) (l .i) bytes in
-    let most : l .i ≤ 3 = omega arith in
+    let most : l .i ≤ 7 = omega arith in
     rw (l .inv .1) (lt-of-lt-of-le here (pow-le-pow-right (lit< tt) most))
 
 mul-n : tie.Need-mul-n Inv-loop μ-loop
