@@ -3,7 +3,7 @@
 --     val-is, stands       a machine value that a value stands at is the value's
 --     owns-result          what a value owns is had for nothing
 --     of-enum, of-struct   a declared enum is such, and a declared struct
---     Typed                what a function that only hands a result on needs of its type.        plain-typed, usize-typed    such types
+--     Typed                what a function that only hands a result on needs of its type.        plain-typed, usize-typed, u64-typed    such types
 -- Assumes `Given`.
 use mathlib.Core.Path.{_≡_, ap, subst}
 use mathlib.Core.List.{List, [], _∷_}
@@ -18,7 +18,7 @@ use denote.RattleType.{RattleType}
 use denote.Laws.{Is, Tells, Makes}
 use denote.Memory.{lone}
 use denote.Plain.{uint-lawful}
-use denote.Builtin.{usize}
+use denote.Builtin.{usize, u64}
 use denote.Steps.{only, owned}
 use denote.Enum.Enum.{Plainss, Few}
 use denote.Enum.Declared as EE
@@ -78,3 +78,6 @@ plain-typed R = record { typed = λ 𝓤 H A W d v is. R .typed 𝓤 H A W d v i
 
 abbrev pub usize-typed : Typed usize
 usize-typed = record { typed = λ 𝓤 H A W n v is. uint-lawful 𝓤 H A W w64 .typed n _ is .0 }
+
+abbrev pub u64-typed : Typed u64
+u64-typed = record { typed = λ 𝓤 H A W n v is. uint-lawful 𝓤 H A W w64 .typed n _ is .0 }

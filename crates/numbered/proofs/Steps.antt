@@ -3,14 +3,17 @@
 use mathlib.Core.Path.{_≡_, refl, sym, _∙_}
 use mathlib.Core.Bool.{true, false, true≢false}
 use mathlib.Core.List.{List}
-use Prim.Native.Nat.{ℕ, _-_}
+use Prim.Native.Nat.{ℕ, _-_, _≤_}
+use native.Mathlib.Omega.{arith}
 use lib.ListN.{length}
+use Rattle.base.proofs.Tests.{by-test}
 use Rattle.refusals.specs.declared.Refusal.the-variants.{BadState, PositionRange}
 use Rattle.reading.specs.Call.{call}
 use Rattle.reading.specs.History.{answered}
 use Rattle.reading.specs.Positions.{behind, isWithin}
 use Rattle.stream.specs.Places.{heldIn}
 use Rattle.stream.specs.Step.{isSpan, Steps}
+use Rattle.stream.proofs.Bounds.{taken-bound}
 use Rattle.numbered.specs.declared.Advanced.{Advanced}
 use Rattle.numbered.specs.Step.{stays, StepsAt}
 
@@ -53,3 +56,14 @@ module _ {m : ℕ} {before : List ℕ} {start end position : ℕ} {input : List 
       → StepsAt m before start end position input after r → Steps m before start end input after (r .moved)
   as-steps good fits s =
       record { same = s .same; refuses = λ bad. absurd (true≢false (sym good ∙ bad)); moves = λ _. s .moves good fits }
+
+  -- a call takes no more than there is, and no more than the limit, whatever it answers
+  pub taken-at-most : {after : List ℕ} {r : Advanced} → StepsAt m before start end position input after r
+      → (r .moved .taken ≤ length input) × (r .moved .taken ≤ m)
+  taken-at-most s =
+      by-test (isSpan m start end)
+      (λ good.
+      by-test (isWithin position (end - start) (length input))
+      (λ fits. taken-bound (as-steps good fits s))
+      (λ far. rw (s .beyond good far .0) (omega arith)))
+      (λ bad. rw (s .refuses bad .0) (omega arith))

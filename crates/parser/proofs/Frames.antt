@@ -13,7 +13,7 @@ use Rattle.stream.specs.Step.{frame, saidOf}
 use Rattle.stream.proofs.Replies.{said-is}
 use Rattle.parser.specs.declared.CrsfParser.{CrsfParser}
 use Rattle.parser.specs.declared.Stepped.{Stepped}
-use Rattle.parser.specs.Parser.{heldBy, isState, Nexts}
+use Rattle.parser.specs.Parser.{heldBy, isState, canTake, Nexts}
 use Rattle.view.specs.View.{frameOf, ofHeld}
 use Rattle.view.proofs.Pointed.{pointed}
 use Rattle.parser.proofs.Held.{moves-on}
@@ -22,15 +22,15 @@ said-frame : (b : Bool) (c : List ℕ) {f : First} → f ≡ says (Frame c) → 
 unfolding saidOf
 said-frame b c e = ap (saidOf b) e
 
-module _ {p : CrsfParser} {input : List ℕ} {r : Stepped} {c : List ℕ} (good : isState p ≡ true) (n : Nexts p input r)
+module _ {p : CrsfParser} {input : List ℕ} {r : Stepped} {c : List ℕ} (good : isState p ≡ true) (fits : canTake p input ≡ true) (n : Nexts p input r)
     (e : call limit (heldBy p) input .answer ≡ says (Frame c)) where
-  both : (ofHeld (r .replied .reply) ≡ ltb 0 (length (heldBy p))) × (frameOf (r .replied .reply) input (r .parser .buffer) ≡ c)
-  both = pointed (r .replied .reply) input (r .parser .buffer) (said-is (moves-on good n) ∙ said-frame (ltb 0 (length (heldBy p))) c e)
+  both : (ofHeld (r .answered .reply) ≡ ltb 0 (length (heldBy p))) × (frameOf (r .answered .reply) input (r .parser .buffer) ≡ c)
+  both = pointed (r .answered .reply) input (r .parser .buffer) (said-is (moves-on good fits n) ∙ said-frame (ltb 0 (length (heldBy p))) c e)
 
   -- these are the frame's bytes
-  pub frame-bytes : frameOf (r .replied .reply) input (r .parser .buffer) ≡ c
+  pub frame-bytes : frameOf (r .answered .reply) input (r .parser .buffer) ≡ c
   frame-bytes = both .1
 
   -- and of the held bytes where something was held
-  pub frame-from : ofHeld (r .replied .reply) ≡ ltb 0 (length (heldBy p))
+  pub frame-from : ofHeld (r .answered .reply) ≡ ltb 0 (length (heldBy p))
   frame-from = both .0

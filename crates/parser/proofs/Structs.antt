@@ -4,8 +4,8 @@ use denote.Struct.Laws as LL
 use mathlib.Core.Path.{refl}
 use Rattle.parser.proofs.CrsfParser as P
 use Rattle.parser.proofs.CrsfParser.Laws as P′
-use Rattle.stream.proofs.step.Replied as R
-use Rattle.stream.proofs.step.Replied.Laws as R′
+use Rattle.numbered.proofs.Answered as R
+use Rattle.numbered.proofs.Answered.Laws as R′
 use Rattle.parser.proofs.Stepped as S
 use Rattle.parser.proofs.Stepped.Laws as S′
 use Rattle.parser.specs.Parser.{stepped}
@@ -28,7 +28,7 @@ abbrev pub steps : Pair After Parser Says
 steps = record {
   name = S.the-type .name;
   first = λ r. r .parser;
-  second = λ r. r .replied;
+  second = λ r. r .answered;
   both = stepped;
   mir-is = refl;
   val-is = λ r. refl;

@@ -3,7 +3,7 @@
 use mathlib.Core.List.{List}
 use Prim.Native.Nat.{ℕ}
 use denote.Triple.Table.{cited}
-use Rattle.stream.specs.declared.step.Replied.{Replied}
+use Rattle.numbered.specs.declared.Answered.{Answered}
 use Rattle.parser.specs.declared.CrsfParser.{CrsfParser}
 use Rattle.parser.specs.Parser.{stepped, Nexts}
 use Rattle.by_hand.proofs.Forms.{ByValue}
@@ -16,7 +16,7 @@ use Rattle.parser.proofs.CrsfParser.next_raw_packet.Key.{name as #next-
 use Rattle.parser.proofs.CrsfParser.next_raw_packet.Statement as stated
 use Rattle.parser.proofs.CrsfParser.next_raw_packet.Code as code
 
-abbrev InPlace : CrsfParser → List ℕ → CrsfParser → Replied → Type 0
+abbrev InPlace : CrsfParser → List ℕ → CrsfParser → Answered → Type 0
 InPlace p input q a = Nexts p input (stepped q a)
 
 pub next-raw-packet-spec : {M : Type 1} → stated.statement M
