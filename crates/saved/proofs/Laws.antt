@@ -1,17 +1,15 @@
--- What the saved form is for (RULES 9.6, 9.7): saving then restoring gives the same held bytes; equal held bytes mean equal forms; a form is accepted
--- exactly if it is the saved form of some bytes, fewer than the limit; and a history goes on across a save and a restore (RULES 7.3).
+-- What the saved form is for (RULES 9.6): saving then restoring gives the same held bytes and the same position; and a history goes on across a save and a
+-- restore (RULES 7.3), with its positions (RULES 18.4).
 -- Assumes nothing.
 use mathlib.Core.Path.{_≡_, refl, sym, ap, ap₂, _∙_, subst}
-use mathlib.Core.Bool.{true, false, _&&_}
-use mathlib.Core.List.{List, _∷_, _++_}
-use Prim.Native.Nat.{ℕ, _+_, _*_, _-_, _≤_, _<_}
+use mathlib.Core.Bool.{true, false, _&&_, and-eq-true-iff}
+use mathlib.Core.List.{List, _++_}
+use Prim.Native.Nat.{ℕ, _+_, _-_, _≤_, _<_}
 use native.Mathlib.Nat.{sub-zero}
 use native.Mathlib.Omega.{arith}
-use borrow.Author.Tests.{lt-ltb, le-ltb, le-leb, eq-eqb}
-use lib.Dec.{leb, ltb, eqb}
+use lib.Dec.{leb}
 use lib.ListN.{length, getD, take, drop}
 use lib.Seq.{take-at}
-use Rattle.base.specs.Bytes.{Bytes}
 use Rattle.base.specs.Parts.{pasted}
 use Rattle.base.proofs.Parts.{pasted-front}
 use Rattle.base.proofs.Tests.{by-test}
@@ -20,65 +18,29 @@ use Rattle.refusals.specs.declared.Refusal.{Refusal}
 use Rattle.refusals.specs.declared.Refusal.the-variants.{BufferOverflow, BadState}
 use Rattle.refusals.proofs.Rows.{not-zero}
 use Rattle.writing.specs.Writing.{wroteRow, writeOf}
-use Rattle.groups.specs.declared.Step.{Step}
-use Rattle.groups.specs.Reading.{step, ends, read}
-use Rattle.groups.proofs.Reading.{Case, on, many, zeroLast, large, last, cases, run-done, run-bad, written-reads, read-written}
 use Rattle.reading.specs.Answer.{Answer}
 use Rattle.reading.specs.Reading.{reading, _⊕_}
 use Rattle.reading.specs.History.{History}
+use Rattle.reading.specs.Positions.{greatest, isWithin}
 use Rattle.reading.proofs.History.{resumed}
 use Rattle.stream.specs.Places.{heldIn}
 use Rattle.stream.proofs.Held.{length-held}
-use Rattle.saved.specs.Form.{savedForm, isSavable, isCounted, isForm, behindCount, heldOf}
+use Rattle.numbered.proofs.Within.{within}
+use Rattle.saved.specs.Form.{isSavable, savedForm, canSave, positionIn}
 use Rattle.saved.specs.Save.{saveImage, heldRow, restoreOf}
-use Rattle.saved.proofs.Forms.{Savable, savable, accepted}
+use Rattle.saved.proofs.Forms.{Savable, savable}
+use Rattle.saved.proofs.Marked.{position-again, form-accepted, held-again}
 
--- ---- forms
+-- what can be saved
+pub record CanSave (m start end position : ℕ) : Type 0 where
+  pub span : Savable m start end
+  pub fits : position + (end - start) ≤ greatest
 
-module _ (m : ℕ) (held : List ℕ) (few : length held < m) where
-  reads-count : read (m - 1) (savedForm held) ≡ ends (length held) held
-  unfolding savedForm
-  reads-count = written-reads (m - 1) (length held) held (omega arith)
-
-  -- the saved form of fewer bytes than the limit is accepted, and its held bytes are these
-  pub form-accepted : isForm m (savedForm held) ≡ true
-  unfolding isForm isCounted
-  form-accepted = simp (le-leb 1 m (omega arith), reads-count, eq-eqb (length held) (length held) refl)
-
-  pub held-again : heldOf m (savedForm held) ≡ held
-  unfolding behindCount
-  held-again = ap behindCount reads-count
-
--- equal forms are those of equal bytes
-pub same-held : (h k : List ℕ) → savedForm h ≡ savedForm k → h ≡ k
-same-held h k e =
-    let m = length h + length k + 1 in
-    sym (held-again m h (omega arith)) ∙ ap (heldOf m) e ∙ held-again m k (omega arith)
-
--- a form that is accepted is the saved form of its held bytes
-pub form-again : (m : ℕ) (form : List ℕ) → Bytes form → isForm m form ≡ true → savedForm (heldOf m form) ≡ form
-unfolding savedForm
-form-again m form all good =
-    sym (read-written (m - 1) form (length (heldOf m form)) (heldOf m form) all (accepted m form good .counted) .0)
-
--- of two accepted saved forms, equal held bytes mean equal forms
-pub same-form : (m : ℕ) (f g : List ℕ) → Bytes f → Bytes g → isForm m f ≡ true → isForm m g ≡ true → heldOf m f ≡ heldOf m g → f ≡ g
-same-form m f g p q a b e = sym (form-again m f p a) ∙ ap savedForm e ∙ form-again m g q b
-
--- up to the limit 128 the count takes up one byte: at 64 the forms are those of 0 to 63 bytes, and no others
-module _ (m b : ℕ) (rest : List ℕ) (some : 1 ≤ m) (one : m ≤ 128) where
-  by-case : {x : Step} → Case (m - 1) 0 1 b x → step (m - 1) 0 1 b ≡ x → isForm m (b ∷ rest) ≡ (ltb b m && eqb (length rest) b)
-  unfolding isForm isCounted
-  by-case (on high room) e = absurd (omega arith)
-  by-case (many high none) e = simp (le-leb 1 m some, run-bad (m - 1) 0 1 b rest e, le-ltb b m (omega arith))
-  by-case (zeroLast low after z) e = absurd (omega arith)
-  by-case (large low form much) e = simp (le-leb 1 m some, run-bad (m - 1) 0 1 b rest e, le-ltb b m (omega arith))
-  by-case (last low form small) e =
-      let unit : 0 + b * 1 ≡ b = omega arith in
-      simp (le-leb 1 m some, run-done (m - 1) 0 1 b rest e, lt-ltb b m (omega arith)) (ap (eqb (length rest)) unit)
-
-  pub one-byte : isForm m (b ∷ rest) ≡ (ltb b m && eqb (length rest) b)
-  one-byte = by-case (cases (m - 1) 0 1 b) refl
+pub can-save : (m start end position : ℕ) → canSave m start end position ≡ true → CanSave m start end position
+unfolding canSave
+can-save m start end position e =
+    let both = and-eq-true-iff (isSavable m start end) (isWithin position (end - start) 0) .0 e in
+    record { span = savable m start end (both .0); fits = let w = within position (end - start) 0 (both .1) in omega arith }
 
 -- ---- a save, and then a restore
 
@@ -92,52 +54,54 @@ restored-holds places held =
 abbrev Left : Type 0
 Left = List ℕ × List ℕ
 
--- what a save that was not refused has written: the form of what was held, fewer bytes than the limit
-pub record FormWritten (places : List ℕ) (start end n : ℕ) (after : List ℕ) : Type 0 where
+-- what a save that was not refused has written: the form of what was held, fewer bytes than the limit, and of its position
+pub record FormWritten (places : List ℕ) (start end position n : ℕ) (after : List ℕ) : Type 0 where
   pub few : length (heldIn places start end) < length places
-  pub form : take n after ≡ savedForm (heldIn places start end)
+  pub fits : position + length (heldIn places start end) ≤ greatest
+  pub form : take n after ≡ savedForm position (heldIn places start end)
 
-module _ (places : List ℕ) (start end : ℕ) (out : List ℕ) {n : ℕ} {after : List ℕ}
-    (saves : (wroteRow n, after) ≡ writeOf (saveImage places start end) out) where
+module _ (places : List ℕ) (start end position : ℕ) (out : List ℕ) {n : ℕ} {after : List ℕ}
+    (saves : (wroteRow n, after) ≡ writeOf (saveImage places start end position) out) where
   abbrev held : List ℕ
   held = heldIn places start end
 
-  never : (r : Refusal) → writeOf (saveImage places start end) out ≡ (rowOf r, out) → ⊥
+  never : (r : Refusal) → writeOf (saveImage places start end position) out ≡ (rowOf r, out) → ⊥
   never r e = not-zero r (sym (ap (λ (x : Left). x .0) (saves ∙ e)))
 
-  wrote : Savable (length places) start end
-      → writeOf (saveImage places start end) out ≡ (wroteRow (length (savedForm held)), pasted out 0 (savedForm held))
-      → FormWritten places start end n after
+  wrote : CanSave (length places) start end position
+      → writeOf (saveImage places start end position) out ≡ (wroteRow (length (savedForm position held)), pasted out 0 (savedForm position held))
+      → FormWritten places start end position n after
   wrote s e =
-      let size : length held ≡ end - start = length-held places start end (s .ordered) (s .inside) in
+      let size : length held ≡ end - start = length-held places start end (s .span .ordered) (s .span .inside) in
       let q = saves ∙ e in
       record {
-        few = omega (arith, s .few);
+        few = omega (arith, s .span .few);
+        fits = omega (arith, s .fits);
         form = ap₂ take (ap (λ (x : Left). getD (x .0) 1 0) q) (ap (λ (x : Left). x .1) q)
-            ∙ ap (take (length (savedForm held))) (pasted-front out (savedForm held))
-            ∙ take-at (savedForm held) (drop (length (savedForm held)) out) (length (savedForm held)) refl;
+            ∙ ap (take (length (savedForm position held))) (pasted-front out (savedForm position held))
+            ∙ take-at (savedForm position held) (drop (length (savedForm position held)) out) (length (savedForm position held)) refl;
       }
 
-  at-bad : isSavable (length places) start end ≡ false → writeOf (saveImage places start end) out ≡ (rowOf BadState, out)
+  at-bad : canSave (length places) start end position ≡ false → writeOf (saveImage places start end position) out ≡ (rowOf BadState, out)
   unfolding saveImage writeOf
   at-bad bad = simp bad
 
-  at-short : isSavable (length places) start end ≡ true → leb (length (savedForm held)) (length out) ≡ false
-      → writeOf (saveImage places start end) out ≡ (rowOf BufferOverflow, out)
+  at-short : canSave (length places) start end position ≡ true → leb (length (savedForm position held)) (length out) ≡ false
+      → writeOf (saveImage places start end position) out ≡ (rowOf BufferOverflow, out)
   unfolding saveImage writeOf
   at-short good short = simp (good, short)
 
-  at-room : isSavable (length places) start end ≡ true → leb (length (savedForm held)) (length out) ≡ true
-      → writeOf (saveImage places start end) out ≡ (wroteRow (length (savedForm held)), pasted out 0 (savedForm held))
+  at-room : canSave (length places) start end position ≡ true → leb (length (savedForm position held)) (length out) ≡ true
+      → writeOf (saveImage places start end position) out ≡ (wroteRow (length (savedForm position held)), pasted out 0 (savedForm position held))
   unfolding saveImage writeOf
   at-room good room = simp (good, room)
 
-  pub written : FormWritten places start end n after
+  pub written : FormWritten places start end position n after
   written =
-      by-test (isSavable (length places) start end)
+      by-test (canSave (length places) start end position)
       (λ good.
-      by-test (leb (length (savedForm held)) (length out))
-      (λ room. wrote (savable (length places) start end good) (at-room good room))
+      by-test (leb (length (savedForm position held)) (length out))
+      (λ room. wrote (can-save (length places) start end position good) (at-room good room))
       (λ short. absurd (never BufferOverflow (at-short good short))))
       (λ bad. absurd (never BadState (at-bad bad)))
 
@@ -149,7 +113,11 @@ module _ (places : List ℕ) (start end : ℕ) (out : List ℕ) {n : ℕ} {after
       let w = written in
       let few : length held < length other = omega (arith, w .few) in
       ap (λ (f : List ℕ). restoreOf f other) (w .form)
-      ∙ simp (form-accepted (length other) held few, held-again (length other) held few)
+      ∙ simp (form-accepted position held (length other) few (w .fits), held-again position held (length other) few (w .fits))
+
+  -- and the same position
+  pub position-kept : positionIn (take n after) ≡ position
+  position-kept = let w = written in ap positionIn (w .form) ∙ position-again position held (omega (arith, w .fits))
 
   -- histories go on: the answers before the save and those after the restore, which is offered what was unread and then more, are the stream's
   pub goes-on-restored : (other : List ℕ) → length other ≡ length places → {k : ℕ} {restored : List ℕ}

@@ -1,10 +1,10 @@
--- A lent parser that is saved, and a lent parser that is restored from what the save wrote: they hold the same bytes (RULES 9.6), and demand 3
--- goes on (RULES 7.3).
+-- A lent parser that is saved, and a lent parser that is restored from what the save wrote: they hold the same bytes and stand at the same
+-- position (RULES 9.6), and demand 3 goes on (RULES 7.3, 18.4).
 -- Assumes nothing.
-use mathlib.Core.Path.{_≡_, ap, ap₂, _∙_, subst}
+use mathlib.Core.Path.{_≡_, sym, ap, ap₂, _∙_, subst}
 use mathlib.Core.Bool.{true, _&&_}
 use mathlib.Core.List.{List, _++_}
-use Prim.Native.Nat.{ℕ, _<_}
+use Prim.Native.Nat.{ℕ, _+_, _≤_, _<_}
 use native.Mathlib.Omega.{arith}
 use borrow.Author.Tests.{le-leb}
 use lib.ListN.{length, take}
@@ -12,7 +12,10 @@ use Rattle.base.specs.Parts.{pasted}
 use Rattle.reading.specs.Answer.{Answer}
 use Rattle.reading.specs.Reading.{reading, _⊕_, limit}
 use Rattle.reading.specs.History.{History}
+use Rattle.reading.specs.Positions.{greatest, numbered}
 use Rattle.reading.proofs.History.{resumed}
+use Rattle.reading.proofs.Positions.{numbered-append}
+use Rattle.parser.proofs.Histories.{Stands}
 use Rattle.parser.specs.declared.CrsfParser.{CrsfParser}
 use Rattle.parser.specs.Parser.{heldBy, isState}
 use Rattle.writing.specs.declared.Written.the-variants.{Wrote}
@@ -22,23 +25,27 @@ use Rattle.saved.specs.Form.{savedForm}
 use Rattle.saved.specs.Save.{heldRow, restoredRow}
 use Rattle.saved.specs.Parser.{resumeOf}
 use Rattle.saved.specs.Lent.{Saves, Resumes}
-use Rattle.saved.proofs.Laws.{form-accepted, held-again, restored-holds, written}
+use Rattle.saved.proofs.Marked.{position-again, form-accepted, held-again}
+use Rattle.saved.proofs.Laws.{restored-holds, written}
 
 abbrev Left : Type 0
 Left = List ℕ × CrsfParser
 
--- a parser that holds these bytes and no others, from place 0 on
-abbrev at-front : CrsfParser → List ℕ → CrsfParser
-at-front q held = record { buffer = pasted (q .buffer) 0 held; start = 0; end = length held }
+-- a parser that holds these bytes and no others, from place 0 on, and stands there
+abbrev at-front : CrsfParser → ℕ → List ℕ → CrsfParser
+at-front q position held = record { buffer = pasted (q .buffer) 0 held; start = 0; end = length held; position = position }
 
-resumes-at : (q : CrsfParser) (held : List ℕ) → length held < limit → resumeOf q (savedForm held) ≡ (heldRow (length held), at-front q held)
+resumes-at : (q : CrsfParser) (position : ℕ) (held : List ℕ) → length held < limit → position + length held ≤ greatest
+    → resumeOf q (savedForm position held) ≡ (heldRow (length held), at-front q position held)
 unfolding resumeOf
-resumes-at q held few = simp (form-accepted limit held few, held-again limit held few)
+resumes-at q position held few fits =
+    simp (form-accepted position held limit few fits, held-again position held limit few fits, position-again position held (omega arith))
 
 -- what a restored parser is to the one that was saved
 pub record Carried (p q : CrsfParser) (r : Restored) : Type 0 where
   pub row : restoredRow r ≡ heldRow (length (heldBy p))
   pub same : heldBy q ≡ heldBy p
+  pub stands : q .position ≡ p .position
   pub state : isState q ≡ true
 
 -- p is saved; then q is restored from what the save wrote, and is q′ afterwards
@@ -47,14 +54,15 @@ module _ (p q : CrsfParser) (full : length (p .buffer) ≡ limit) (out : List �
   pub carried : Carried p q′ r
   unfolding writtenRow
   carried =
-      let w = written (p .buffer) (p .start) (p .end) out saves in
+      let w = written (p .buffer) (p .start) (p .end) (p .position) out saves in
       let held = heldBy p in
       let few : length held < limit = omega (arith, w .few) in
-      let e = resumes ∙ ap (resumeOf q) (w .form) ∙ resumes-at q held few in
-      let at : q′ ≡ at-front q held = ap (λ (x : Left). x .1) e in
+      let e = resumes ∙ ap (resumeOf q) (w .form) ∙ resumes-at q (p .position) held few (w .fits) in
+      let at : q′ ≡ at-front q (p .position) held = ap (λ (x : Left). x .1) e in
       record {
         row = ap (λ (x : Left). x .0) e;
         same = ap heldBy at ∙ restored-holds (q .buffer) held;
+        stands = ap (λ (x : CrsfParser). x .position) at;
         state = ap isState at ∙ ap₂ _&&_ (le-leb 0 (length held) (omega arith)) (le-leb (length held) limit (omega arith));
       }
 
@@ -65,3 +73,10 @@ module _ (p q : CrsfParser) (full : length (p .buffer) ≡ limit) (out : List �
       → reading m (stream ++ more) ≡ (given ++ given₂) ⊕ reading m (held₂ ++ unread₂)
   goes-on-carried {m} {unread = unread} {held₂} {unread₂} {given₂ = given₂} more before later =
       resumed more before (subst (λ (l : List ℕ). History m (l ++ unread ++ more) held₂ unread₂ given₂) (carried .same) later)
+
+  -- and they are numbered on from where the saved parser stood: each position is the stream's, as if there had been no save
+  pub numbers-carried : {s : ℕ} {stream unread : List ℕ} {given : List Answer} (given₂ : List Answer) → Stands s stream p unread given
+      → numbered s (given ++ given₂) ≡ numbered s given ++ numbered (q′ .position) given₂
+  numbers-carried {s} {given = given} given₂ h =
+      numbered-append s given given₂
+      ∙ ap (λ (k : ℕ). numbered s given ++ numbered k given₂) (sym (carried .stands ∙ h .position))

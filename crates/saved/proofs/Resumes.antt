@@ -13,7 +13,7 @@ use Rattle.refusals.specs.declared.Refusal.the-variants.{BadState}
 use Rattle.refusals.proofs.Rows.{not-zero}
 use Rattle.reading.specs.Reading.{limit}
 use Rattle.parser.specs.declared.CrsfParser.{CrsfParser}
-use Rattle.saved.specs.Form.{isForm, heldOf}
+use Rattle.saved.specs.Form.{positionIn, isForm, heldOf}
 use Rattle.saved.specs.declared.form.Restored.the-variants.{Held, Refused}
 use Rattle.saved.specs.Save.{heldRow, restoredRow, restoreOf}
 use Rattle.saved.specs.Parser.{resumeOf}
@@ -31,15 +31,16 @@ module _ (p : CrsfParser) (form : List ℕ) (full : length (p .buffer) ≡ limit
   at-bad bad = simp (full, bad)
 
   resumed : {row after : List ℕ} → isForm limit form ≡ true → (row, after) ≡ restoreOf form (p .buffer)
-      → (row, record { buffer = after; start = 0; end = getD row 1 0 }) ≡ resumeOf p form
+      → (row, record { buffer = after; start = 0; end = getD row 1 0; position = positionIn form }) ≡ resumeOf p form
   unfolding resumeOf
-  resumed good e = ap (λ (x : Left). (x .0, record { buffer = x .1; start = 0; end = getD (x .0) 1 0 })) (e ∙ at-good good) ∙ simp good
+  resumed good e = ap (λ (x : Left). (x .0, record { buffer = x .1; start = 0; end = getD (x .0) 1 0; position = positionIn form })) (e ∙ at-good good) ∙ simp good
 
-  pub resume-held : {n : ℕ} {after : List ℕ} → (restoredRow (Held n), after) ≡ restoreOf form (p .buffer)
-      → (restoredRow (Held n), record { buffer = after; start = 0; end = n }) ≡ resumeOf p form
+  pub resume-held : {n q : ℕ} {after : List ℕ} → (restoredRow (Held n), after) ≡ restoreOf form (p .buffer) → q ≡ positionIn form
+      → (restoredRow (Held n), record { buffer = after; start = 0; end = n; position = q }) ≡ resumeOf p form
   unfolding restoredRow
-  resume-held e =
-      by-test (isForm limit form) (λ good. resumed good e) (λ bad. absurd (not-zero BadState (sym (ap (λ (x : Left). x .0) (e ∙ at-bad bad)))))
+  resume-held {n} {q} {after} e at =
+      ap (λ (k : ℕ). (heldRow n, record { buffer = after; start = 0; end = n; position = k })) at
+      ∙ by-test (isForm limit form) (λ good. resumed good e) (λ bad. absurd (not-zero BadState (sym (ap (λ (x : Left). x .0) (e ∙ at-bad bad)))))
 
   pub resume-refused : (r : Refusal) {after : List ℕ} → (restoredRow (Refused r), after) ≡ restoreOf form (p .buffer)
       → (restoredRow (Refused r), p) ≡ resumeOf p form

@@ -12,7 +12,7 @@ use Rattle.saved.specs.Parser.{resumeOf}
 
 -- the parser, the buffer at entry, what is answered, and the buffer at exit
 abbrev pub Saves : CrsfParser → List ℕ → Written → List ℕ → Type 0
-Saves p out r after = (writtenRow r, after) ≡ writeOf (saveImage (p .buffer) (p .start) (p .end)) out
+Saves p out r after = (writtenRow r, after) ≡ writeOf (saveImage (p .buffer) (p .start) (p .end) (p .position)) out
 
 -- the parser at entry, the form, the parser at exit, and what is answered
 abbrev pub Resumes : CrsfParser → List ℕ → CrsfParser → Restored → Type 0

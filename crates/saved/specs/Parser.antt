@@ -9,7 +9,7 @@ use Rattle.refusals.specs.Row.{rowOf}
 use Rattle.refusals.specs.declared.Refusal.the-variants.{BadState}
 use Rattle.reading.specs.Reading.{limit}
 use Rattle.parser.specs.declared.CrsfParser.{CrsfParser}
-use Rattle.saved.specs.Form.{isForm, heldOf}
+use Rattle.saved.specs.Form.{positionIn, isForm, heldOf}
 use Rattle.saved.specs.Save.{heldRow}
 
 -- the row, and the parser afterwards
@@ -17,5 +17,5 @@ unfoldable pub resumeOf : CrsfParser → List ℕ → List ℕ × CrsfParser
 resumeOf p form =
     let held = heldOf limit form in
     if isForm limit form
-    then (heldRow (length held), record { buffer = pasted (p .buffer) 0 held; start = 0; end = length held })
+    then (heldRow (length held), record { buffer = pasted (p .buffer) 0 held; start = 0; end = length held; position = positionIn form })
     else (rowOf BadState, p)

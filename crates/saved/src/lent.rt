@@ -5,7 +5,7 @@ use parser::CrsfParser;
 use writing::Written;
 ghost use Rattle.saved.specs.Lent.{Saves, Resumes};
 
-// What the parser holds is written as its saved form.
+// What the parser holds, and where it stands, is written as its saved form.
 pub fn save(p: &CrsfParser, out: &mut [u8]) -> Written
     ensures { λ r. ⌜ Saves (now (p .entry)) (now (out .entry)) r (now (out .exit)) ⌝ }
 {

@@ -1,8 +1,10 @@
-// The saved form of a parser: what it holds, written so that a later run goes on where this one was.
+// The saved form of a parser: what it holds and where it stands, written so that a later run goes on where this one was.
 pub mod form;
+mod held;
 pub mod lent;
 
 use form::Restored;
+use form::position_in;
 use form::restore_in;
 use form::save_in;
 use parser::CrsfParser;
@@ -19,10 +21,10 @@ pub struct Resumed {
 }
 
 pub fn save(p: CrsfParser, out: &mut [u8]) -> Written
-    ensures { λ r. ⌜ (writtenRow r, now (out .exit)) ≡ writeOf (saveImage (p .buffer) (p .start) (p .end)) (now (out .entry)) ⌝ }
+    ensures { λ r. ⌜ (writtenRow r, now (out .exit)) ≡ writeOf (saveImage (p .buffer) (p .start) (p .end) (p .position)) (now (out .entry)) ⌝ }
 {
     let buffer = p.buffer;
-    save_in(&buffer, p.start, p.end, out)
+    save_in(&buffer, p.start, p.end, p.position, out)
 }
 
 pub fn restore(p: CrsfParser, form: &[u8]) -> Resumed
@@ -36,6 +38,7 @@ pub fn restore(p: CrsfParser, form: &[u8]) -> Resumed
                 buffer,
                 start: 0,
                 end: count,
+                position: position_in(form),
             },
             restored,
         },

@@ -17,16 +17,20 @@ restore-in-requires c κs = search needs
 enum-known-restored : tie.Need-enum-known-restored
 enum-known-restored c = search needs
 
+position-in-requires : tie.Need-position-in-requires
+position-in-requires c κs = search needs
+
 enum-told : tie.Need-enum-told
 enum-told c = search needs
 
 returns : tie.Need-returns
 returns c =
-    let restored = c .before .before .before .before in
+    let known = c .before .before in
+    let restored = known .before .before .before in
     let a = restored .before .before .before .before .args in
-    let told = c .before .restored .given .1 in
+    let told = known .restored .given .1 in
     resume-held (a .p) (a .form .now) (omega arith)
-    (ap (λ (r : Restored). (restoredRow r, restored .restore-in .last .0)) (sym told) ∙ restored .restore-in .ensures)
+    (ap (λ (r : Restored). (restoredRow r, restored .restore-in .last .0)) (sym told) ∙ restored .restore-in .ensures) (c .position-in .ensures)
 
 returns-2 : tie.Need-returns-2
 returns-2 c =
@@ -44,6 +48,7 @@ restore-spec =
     slice-aggregate-restore-in
     restore-in-requires
     enum-known-restored
+    position-in-requires
     enum-told
     returns
     returns-2)

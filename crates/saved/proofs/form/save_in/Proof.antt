@@ -1,43 +1,84 @@
 -- `saved::form::save_in` meets its contract. Assumes nothing.
-use mathlib.Core.Path.{_≡_}
+use mathlib.Core.Path.{_≡_, ap, _∙_}
 use mathlib.Core.Bool.{Bool, true, not}
-use Prim.Native.Nat.{_+_, _-_, _≤_}
+use Prim.Native.Nat.{ℕ, _+_, _-_, _≤_}
+use native.Mathlib.Nat.{lt-of-le-of-lt}
 use native.Mathlib.Omega.{arith}
 use borrow.Author.Tests.{not-true, not-false, leb-true}
-use lib.ListN.{length}
+use lib.Dec.{lit<}
+use lib.ListN.{length, length-append, length-take, length-drop, length-set}
 use Rattle.base.specs.Parts.{fitsIn}
 use Rattle.base.proofs.Tests.{not-as}
-use Rattle.saved.specs.Form.{isSavable}
-use Rattle.saved.proofs.Forms.{Savable, savable, save-refused, save-short, save-written}
+use Rattle.groups.specs.Groups.{groups}
+use Rattle.groups.proofs.Groups.{groups-most}
+use Rattle.saved.specs.Form.{canSave}
+use Rattle.saved.proofs.Laws.{CanSave, can-save}
+use Rattle.saved.proofs.Heads.{save-refused, save-short, save-written}
 use borrow.Author.Needs.{needs}
 use Rattle.saved.proofs.form.save_in.Statement.{statement}
 use Rattle.saved.proofs.form.save_in.Tie as tie
 
-good : (c : tie.Else1) → (let a = c .before .before .before .before .args in isSavable (length (a .places .now)) (a .start) (a .end) ≡ true)
-good c = not-false _ (not-as (c .before .is-savable .ensures) (c .if1 .left))
+-- a number of 64 bits has ten groups at most
+ten : (n : ℕ) → n ≤ 18446744073709551615 → length (groups n) ≤ 10
+ten n small = groups-most 9 n (lt-of-le-of-lt small (lit< tt))
 
-span : (c : tie.Else1) → (let a = c .before .before .before .before .args in Savable (length (a .places .now)) (a .start) (a .end))
-span c = savable _ _ _ (good c)
+abbrev start-of : tie.Else1 → tie.Start
+start-of c = c .before .before .before .before
 
--- the room for count and bytes, where the test on it said so
-room : (c : tie.After-fits2) {t : Bool} → not (c .fits2 .result) ≡ t
-    → (let a = c .before .before .before .before .before .before .args in
-    not (fitsIn (length (a .out .now)) (c .before .size .result) (a .end - a .start)) ≡ t)
-room c e = not-as (c .fits2 .ensures) e
+good : (c : tie.Else1) → (let a = start-of c .args in canSave (length (a .places .now)) (a .start) (a .end) (a .position) ≡ true)
+good c = not-false _ (not-as (c .before .can-save .ensures) (c .if1 .left))
 
-is-savable-requires : tie.Need-is-savable-requires
-is-savable-requires c κs = search needs
+can : (c : tie.Else1) → (let a = start-of c .args in CanSave (length (a .places .now)) (a .start) (a .end) (a .position))
+can c = can-save _ _ _ _ (good c)
+
+-- the test of the room for all of it
+tested : (c : tie.After-fits2) {t : Bool} → not (c .fits2 .result) ≡ t
+    → (let a = start-of (c .before .before .before) .args in
+    not (fitsIn (length (a .out .now)) (c .before .before .size .result + 1 + c .before .size2 .result) (a .end - a .start)) ≡ t)
+tested c e = not-as (c .fits2 .ensures) e
+
+roomy : (c : tie.Else2)
+    → (let a = start-of (c .before .before .before .before) .args in
+    fitsIn (length (a .out .now)) (c .before .before .before .size .result + 1 + c .before .before .size2 .result) (a .end - a .start) ≡ true)
+roomy c = not-false _ (tested (c .before) (c .if2 .left))
+
+room : (c : tie.Else2)
+    → (let a = start-of (c .before .before .before .before) .args in
+    c .before .before .before .size .result + 1 + c .before .before .size2 .result + (a .end - a .start) ≤ length (a .out .now))
+room c = leb-true _ _ (roomy c)
+
+-- a write of the position leaves as many bytes
+put-keeps : (c : tie.After-put) → (let a = start-of (c .before .before .before .before .before .before) .args in length (c .put .last .1 .0) ≡ length (a .out .now))
+put-keeps c =
+    let a = start-of (c .before .before .before .before .before .before) .args in
+    c .put .kept .1 .0 ∙ length-set (a .out .now) 0 64
+
+can-save-requires : tie.Need-can-save-requires
+can-save-requires c κs = search needs
 
 returns : tie.Need-returns
 returns c =
     let a = c .before .before .before .before .args in
-    save-refused (a .places .now) (a .start) (a .end) (a .out .now) (not-true _ (not-as (c .before .is-savable .ensures) (c .if1 .taken)))
+    save-refused (a .places .now) (a .start) (a .end) (a .position) (a .out .now) (not-true _ (not-as (c .before .can-save .ensures) (c .if1 .taken)))
 
 sub-count : tie.Need-sub-count
-sub-count c = span c .ordered
+sub-count c = can c .span .ordered
 
 size-requires : tie.Need-size-requires
 size-requires c κs = search needs
+
+add-at : tie.Need-add-at
+add-at c =
+    let a = start-of (c .before) .args in
+    record { fits = omega (arith, c .size .ensures, ten (a .position) (omega arith)) }
+
+size-requires-2 : tie.Need-size-requires-2
+size-requires-2 c κs = search needs
+
+add-from : tie.Need-add-from
+add-from c =
+    let a = start-of (c .before .before) .args in
+    record { fits = omega (arith, c .before .size .ensures, c .size2 .ensures, ten (a .position) (omega arith), ten (a .end - a .start) (omega arith)) }
 
 fits-requires : tie.Need-fits-requires
 fits-requires c κs = search needs
@@ -45,60 +86,75 @@ fits-requires c κs = search needs
 returns-2 : tie.Need-returns-2
 returns-2 c =
     let sized = c .before .before in
-    let a = sized .before .before .before .before .before .args in
-    save-short (a .places .now) (a .start) (a .end) (a .out .now) (good (sized .before)) (sized .size .ensures) (not-true _ (room (c .before) (c .if2 .taken)))
+    let a = start-of (sized .before .before) .args in
+    save-short (a .places .now) (a .start) (a .end) (a .position) (a .out .now) (good (sized .before .before)) (sized .before .size .ensures) (sized .size2 .ensures)
+    (not-true _ (tested (c .before) (c .if2 .taken)))
+
+slice-write-out : tie.Need-slice-write-out
+slice-write-out c = let r = room c in omega arith
 
 put-requires : tie.Need-put-requires
 put-requires c κs = search needs
 
-sub-copy-in : tie.Need-sub-copy-in
-sub-copy-in c = span (c .before .before .before .before .before .before .before .before) .ordered
+sub-save-held : tie.Need-sub-save-held
+sub-save-held c =
+    let put = c .before .before in
+    let r = room (put .before .before) in
+    omega (arith, put-keeps put)
 
-part-copy-in-start : tie.Need-part-copy-in-start
-part-copy-in-start c = span (c .before .before .before .before .before .before .before .before) .ordered
+part-save-held-start : tie.Need-part-save-held-start
+part-save-held-start c =
+    let put = c .before .before in
+    let r = room (put .before .before) in
+    omega (arith, put-keeps put)
 
-part-copy-in-end : tie.Need-part-copy-in-end
-part-copy-in-end c = span (c .before .before .before .before .before .before .before .before) .inside
+part-save-held-end : tie.Need-part-save-held-end
+part-save-held-end c = search needs
 
-copy-in-requires : tie.Need-copy-in-requires
-copy-in-requires c κs = search needs
+save-held-requires : tie.Need-save-held-requires
+save-held-requires c κs = search needs
 
-add-t8 : tie.Need-add-t8
-add-t8 c =
-    let roomy = c .before .before .before .before .before .before .before .before .before in
-    let sized = roomy .before .before in
-    let a = sized .before .before .before .before .before .args in
-    let fits : sized .size .result + (a .end - a .start) ≤ length (a .out .now) = leb-true _ _ (not-false _ (room (roomy .before) (roomy .if2 .left))) in
-    omega arith
+add-t10 : tie.Need-add-t10
+add-t10 c =
+    let r = room (c .before .before .before .before .before .before .before .before) in
+    record { fits = omega arith }
 
 same-length : tie.Need-same-length
-same-length c = search needs
+same-length c =
+    let saved = c .before .before in
+    let put = saved .before .before .before .before in
+    let r = room (put .before .before) in
+    simp (length-append, length-take, length-drop) (omega (arith, put-keeps put, saved .save-held .kept .1 .1 .1 .0))
 
 returns-3 : tie.Need-returns-3
 returns-3 c =
-    let copy = c .before .before in
-    let put = copy .before .before .before .before .before in
-    let roomy = put .before .before in
-    let sized = roomy .before .before in
-    let a = sized .before .before .before .before .before .args in
-    save-written (a .places .now) (a .start) (a .end) (a .out .now) (good (sized .before)) (sized .size .ensures)
-    (not-false _ (room (roomy .before) (roomy .if2 .left))) (put .put .ensures) (copy .copy-in .ensures)
+    let saved = c .before .before in
+    let put = saved .before .before .before .before in
+    let near = put .before .before in
+    let sized = near .before .before in
+    let a = start-of (sized .before .before) .args in
+    save-written (a .places .now) (a .start) (a .end) (a .position) (a .out .now) (good (sized .before .before)) (sized .before .size .ensures) (sized .size2 .ensures)
+    (roomy near) (put .put .ensures) (saved .save-held .ensures)
 
 pub save-in-spec : {M : Type 1} → statement M
 save-in-spec =
     tie.close
     (tie.spec
-    is-savable-requires
+    can-save-requires
     returns
     sub-count
     size-requires
+    add-at
+    size-requires-2
+    add-from
     fits-requires
     returns-2
+    slice-write-out
     put-requires
-    sub-copy-in
-    part-copy-in-start
-    part-copy-in-end
-    copy-in-requires
-    add-t8
+    sub-save-held
+    part-save-held-start
+    part-save-held-end
+    save-held-requires
+    add-t10
     same-length
     returns-3)

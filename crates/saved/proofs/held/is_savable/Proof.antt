@@ -1,8 +1,8 @@
--- `saved::form::is_savable` meets its contract. Assumes nothing.
+-- `saved::held::is_savable` meets its contract. Assumes nothing.
 use borrow.Author.Tests.{le-leb, lt-leb}
 use Rattle.saved.specs.Form.{isSavable}
-use Rattle.saved.proofs.form.is_savable.Statement.{statement}
-use Rattle.saved.proofs.form.is_savable.Tie as tie
+use Rattle.saved.proofs.held.is_savable.Statement.{statement}
+use Rattle.saved.proofs.held.is_savable.Tie as tie
 
 returns : tie.Need-returns
 unfolding isSavable

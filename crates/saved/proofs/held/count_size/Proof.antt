@@ -1,10 +1,10 @@
--- `saved::form::count_size` meets its contract. Assumes nothing.
+-- `saved::held::count_size` meets its contract. Assumes nothing.
 use mathlib.Core.Path.{sym, _∙_}
 use native.Mathlib.Omega.{arith}
 use Rattle.saved.proofs.Forms.{no-limit, unfinished-size, malformed-size, number-size, other-size, number-inside}
 use borrow.Author.Needs.{needs}
-use Rattle.saved.proofs.form.count_size.Statement.{statement}
-use Rattle.saved.proofs.form.count_size.Tie as tie
+use Rattle.saved.proofs.held.count_size.Statement.{statement}
+use Rattle.saved.proofs.held.count_size.Tie as tie
 
 returns : tie.Need-returns
 returns c = no-limit (c .before .before .args .form .now) (omega arith)
