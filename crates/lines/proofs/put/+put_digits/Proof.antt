@@ -11,6 +11,7 @@ use borrow.Fn.PlainCycle.{Measures, is, falls, and}
 use Rattle.lines.proofs.put.put_digits.Reads as put-digits
 use Rattle.lines.proofs.put.put_digits.Kinds as put-digits-kinds
 use Rattle.lines.proofs.put.+put_digits.Lts-put_digits as put-digits-lts
+use Rattle.lines.proofs.put.low_digit.Reads as low-digit-reads
 use Rattle.lines.proofs.put.+put_digits.{statement}
 use Rattle.lines.proofs.put.+put_digits.Tie.{close}
 
