@@ -13,7 +13,7 @@ use Rattle.reading.specs.History.{answered}
 use Rattle.reading.specs.Positions.{behind, isWithin}
 use Rattle.stream.specs.Places.{heldIn}
 use Rattle.stream.specs.Step.{isSpan, Steps}
-use Rattle.stream.proofs.Bounds.{taken-bound}
+use Rattle.stream.proofs.Bounds.{taken-bound, still-span}
 use Rattle.numbered.specs.declared.Advanced.{Advanced}
 use Rattle.numbered.specs.Step.{stays, StepsAt}
 
@@ -67,3 +67,11 @@ module _ {m : ℕ} {before : List ℕ} {start end position : ℕ} {input : List 
       (λ fits. taken-bound (as-steps good fits s))
       (λ far. rw (s .beyond good far .0) (omega arith)))
       (λ bad. rw (s .refuses bad .0) (omega arith))
+
+  -- a valid state stays one
+  pub still-at : {after : List ℕ} {r : Advanced} → StepsAt m before start end position input after r → isSpan m start end ≡ true
+      → isSpan m (r .moved .start) (r .moved .end) ≡ true
+  still-at s good =
+      by-test (isWithin position (end - start) (length input))
+      (λ fits. still-span (as-steps good fits s) good)
+      (λ far. rw (s .beyond good far .0) good)

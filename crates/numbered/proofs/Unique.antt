@@ -27,7 +27,7 @@ pub is-within-one : OneAnswer {Seen = Bool} is-within.Post (λ κs r s. r)
 is-within-one κs a r r′ s s′ = same
 
 -- a call that moves is not refused with 12
-not-beyond : (piece places state : List ℕ) (a : Reply) → numberSaid (meaningOf a piece places) ≤ 3 → ifBeyond a state ≡ []
+pub not-beyond : (piece places state : List ℕ) (a : Reply) → numberSaid (meaningOf a piece places) ≤ 3 → ifBeyond a state ≡ []
 unfolding numberSaid meaningOf ifBeyond
 not-beyond piece places state More h = refl
 not-beyond piece places state (Frame p) h = refl

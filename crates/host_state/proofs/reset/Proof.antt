@@ -1,5 +1,5 @@
 -- `host_state::reset` meets its contract. Assumes nothing.
-use mathlib.Core.Path.{_≡_}
+use mathlib.Core.Path.{_≡_, _∙_}
 use native.Mathlib.Omega.{arith}
 use lib.ListN.{length, length-set}
 use Rattle.host_state.specs.State.{size}
@@ -27,11 +27,18 @@ slice-write-state c = let f = fits c in omega arith
 slice-write-state-2 : tie.Need-slice-write-state-2
 slice-write-state-2 c = let f = fits c in simp length-set (omega arith)
 
+move-to-requires : tie.Need-move-to-requires
+move-to-requires c κs = search needs
+
 same-length-2 : tie.Need-same-length-2
-same-length-2 c = search needs
+same-length-2 c =
+    let moved = c .before .before in
+    moved .move-to .kept .0 ∙ simp length-set
 
 returns-2 : tie.Need-returns-2
-returns-2 c = reset-done _ (fits c)
+returns-2 c =
+    let moved = c .before .before in
+    reset-done _ (fits (moved .before .before)) (moved .move-to .ensures)
 
 pub reset-spec : {M : Type 1} → statement M
 reset-spec =
@@ -42,5 +49,6 @@ reset-spec =
     returns
     slice-write-state
     slice-write-state-2
+    move-to-requires
     same-length-2
     returns-2)

@@ -6,8 +6,9 @@ use native.Mathlib.Omega.{arith}
 use lib.ListN.{length, length-set}
 use Rattle.saved.specs.declared.form.Restored.{Restored}
 use Rattle.saved.specs.Save.{restoredRow}
+use Rattle.reading.specs.Reading.{limit}
 use Rattle.host_state.specs.State.{size}
-use Rattle.host_state.proofs.States.{right-size, wrong-size, two-written, written}
+use Rattle.host_state.proofs.States.{right-size, wrong-size, places-count, written-size, written}
 use Rattle.host_state.proofs.Saves.{restore-refused, restore-done, restore-kept}
 use borrow.Author.Needs.{needs}
 use Rattle.host_state.proofs.restore.Statement.{statement}
@@ -18,6 +19,9 @@ fits c = right-size _ (c .before .has-size .ensures) (c .if1 .left)
 
 abbrev stateBefore : tie.After-restore-in → List ℕ
 stateBefore c = c .before .before .before .before .before .before .before .args .state .now
+
+full : (c : tie.After-restore-in) → length (c .restore-in .last .0) ≡ limit
+full c = let f = fits (c .before .before) in c .restore-in .kept .0 ∙ places-count (stateBefore c) f
 
 has-size-requires : tie.Need-has-size-requires
 has-size-requires c κs = search needs
@@ -35,7 +39,7 @@ part-restore-in-start : tie.Need-part-restore-in-start
 part-restore-in-start c = let f = fits c in omega arith
 
 part-restore-in-end : tie.Need-part-restore-in-end
-part-restore-in-end c = search needs
+part-restore-in-end c = let f = fits c in omega arith
 
 restore-in-requires : tie.Need-restore-in-requires
 restore-in-requires c κs = search needs
@@ -46,7 +50,7 @@ enum-known-restored c = search needs
 slice-write-state : tie.Need-slice-write-state
 slice-write-state c =
     let restored = c .before .before .before .before .before in
-    let two = two-written (stateBefore restored) (fits (restored .before .before)) (restored .restore-in .last .0) in
+    let long = written-size (stateBefore restored) (fits (restored .before .before)) (restored .restore-in .last .0) (full restored) in
     omega arith
 
 narrow-requires : tie.Need-narrow-requires
@@ -55,24 +59,39 @@ narrow-requires c κs = search needs
 slice-write-state-2 : tie.Need-slice-write-state-2
 slice-write-state-2 c =
     let restored = c .before .before .before .before .before .before in
-    let two = two-written (stateBefore restored) (fits (restored .before .before)) (restored .restore-in .last .0) in
+    let long = written-size (stateBefore restored) (fits (restored .before .before)) (restored .restore-in .last .0) (full restored) in
     simp length-set (omega arith)
+
+position-in-requires : tie.Need-position-in-requires
+position-in-requires c κs = search needs
+
+move-to-requires : tie.Need-move-to-requires
+move-to-requires c κs = search needs
 
 enum-told : tie.Need-enum-told
 enum-told c = search needs
 
 same-length-2 : tie.Need-same-length-2
-same-length-2 c = search needs
+same-length-2 c =
+    let moved = c .before .before in
+    let narrowed = moved .before .before .before in
+    let restored = narrowed .before .before .before .before .before .before in
+    let f = fits (restored .before .before) in
+    let long = written-size (stateBefore restored) f (restored .restore-in .last .0) (full restored) in
+    moved .move-to .kept .0 ∙ simp (length-set, long) (sym f)
 
 returns-2 : tie.Need-returns-2
 returns-2 c =
-    let held = c .before .before in
+    let moved = c .before .before in
+    let narrowed = moved .before .before .before in
+    let held = narrowed .before .before in
     let restored = held .before .before .before .before in
     let is = held .restored .given .1 in
     let s = stateBefore restored in
     let f = fits (restored .before .before) in
     let left = restored .restore-in .last .0 in
-    restore-done s f _ _ (ap (λ (r : Restored). (restoredRow r, left)) (sym is) ∙ restored .restore-in .ensures) (c .narrow .ensures)
+    restore-done s f _ (full restored) _ (ap (λ (r : Restored). (restoredRow r, left)) (sym is) ∙ restored .restore-in .ensures) (narrowed .narrow .ensures)
+    (moved .before .position-in .ensures) (moved .move-to .ensures)
 
 same-length-3 : tie.Need-same-length-3
 same-length-3 c = search needs
@@ -84,8 +103,8 @@ returns-3 c =
     let s = stateBefore restored in
     let f = fits (restored .before .before) in
     let left = restored .restore-in .last .0 in
-    ap (λ (r : Restored). (restoredRow r, written s f left)) is
-    ∙ restore-kept s f _ _ (ap (λ (r : Restored). (restoredRow r, left)) (sym is) ∙ restored .restore-in .ensures)
+    ap (λ (r : Restored). (restoredRow r, written s f left (full restored))) is
+    ∙ restore-kept s f _ (full restored) _ (ap (λ (r : Restored). (restoredRow r, left)) (sym is) ∙ restored .restore-in .ensures)
 
 pub restore-spec : {M : Type 1} → statement M
 restore-spec =
@@ -102,6 +121,8 @@ restore-spec =
     slice-write-state
     narrow-requires
     slice-write-state-2
+    position-in-requires
+    move-to-requires
     enum-told
     same-length-2
     returns-2

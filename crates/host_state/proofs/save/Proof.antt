@@ -30,14 +30,17 @@ shared-slice-read-wide-2 c = let f = fits (c .before .before .before) in omega a
 wide-requires-2 : tie.Need-wide-requires-2
 wide-requires-2 c κs = search needs
 
+position-of-requires : tie.Need-position-of-requires
+position-of-requires c κs = search needs
+
 sub-save-in : tie.Need-sub-save-in
-sub-save-in c = let f = fits (c .before .before .before .before) in omega arith
+sub-save-in c = let f = fits (c .before .before .before .before .before) in omega arith
 
 part-save-in-start : tie.Need-part-save-in-start
-part-save-in-start c = let f = fits (c .before .before .before .before) in omega arith
+part-save-in-start c = let f = fits (c .before .before .before .before .before) in omega arith
 
 part-save-in-end : tie.Need-part-save-in-end
-part-save-in-end c = search needs
+part-save-in-end c = let f = fits (c .before .before .before .before .before) in omega arith
 
 save-in-requires : tie.Need-save-in-requires
 save-in-requires c κs = search needs
@@ -48,9 +51,10 @@ same-length c = search needs
 returns-2 : tie.Need-returns-2
 returns-2 c =
     let saved = c .before .before in
-    let end = saved .before .before .before in
+    let stood = saved .before .before .before in
+    let end = stood .before in
     let start = end .before .before in
-    save-done _ (fits (start .before .before)) _ (start .wide .ensures .0) (end .wide2 .ensures .0) (saved .save-in .ensures)
+    save-done _ (fits (start .before .before)) _ (start .wide .ensures .0) (end .wide2 .ensures .0) (stood .position-of .ensures) (saved .save-in .ensures)
 
 pub save-spec : {M : Type 1} → statement M
 save-spec =
@@ -62,6 +66,7 @@ save-spec =
     wide-requires
     shared-slice-read-wide-2
     wide-requires-2
+    position-of-requires
     sub-save-in
     part-save-in-start
     part-save-in-end

@@ -7,8 +7,8 @@ use native.Mathlib.Omega.{arith}
 use lib.ListN.{length, length-take, length-drop, length-set}
 use Rattle.reading.specs.Reading.{limit}
 use Rattle.host_state.specs.State.{size}
-use Rattle.host_state.proofs.States.{right-size, wrong-size, two-written}
-use Rattle.host_state.proofs.Steps.{bounded, refused-steps, state-steps}
+use Rattle.host_state.proofs.States.{right-size, wrong-size, written-size}
+use Rattle.host_state.proofs.Steps.{bounded, refused-steps, places-step}
 use borrow.Author.Needs.{needs}
 use Rattle.host_state.proofs.step.Statement.{statement}
 use Rattle.host_state.proofs.step.Tie as tie
@@ -54,7 +54,7 @@ part-step-in-start : tie.Need-part-step-in-start
 part-step-in-start c = let f = fits (c .before .before .before .before) in omega arith
 
 part-step-in-end : tie.Need-part-step-in-end
-part-step-in-end c = search needs
+part-step-in-end c = let f = fits (c .before .before .before .before) in omega arith
 
 step-in-requires : tie.Need-step-in-requires
 step-in-requires c κs = search needs
@@ -65,7 +65,7 @@ narrow-requires c κs = search needs
 slice-write-state : tie.Need-slice-write-state
 slice-write-state c =
     let step = c .before .before .before in
-    let two = two-written (stateBefore step) (sized step) (step .step-in .last .0) in
+    let long = written-size (stateBefore step) (sized step) (step .step-in .last .0) (full step) in
     omega arith
 
 narrow-requires-2 : tie.Need-narrow-requires-2
@@ -74,7 +74,7 @@ narrow-requires-2 c κs = search needs
 slice-write-state-2 : tie.Need-slice-write-state-2
 slice-write-state-2 c =
     let step = c .before .before .before .before in
-    let two = two-written (stateBefore step) (sized step) (step .step-in .last .0) in
+    let long = written-size (stateBefore step) (sized step) (step .step-in .last .0) (full step) in
     simp length-set (omega arith)
 
 same-length-2 : tie.Need-same-length-2
@@ -87,7 +87,7 @@ returns-2 c =
     let start = end .before .before in
     let f = sized step in
     let few = bounded (step .step-in .ensures) (simp (length-take, length-drop) (omega arith)) (start .wide .ensures .1) (end .wide2 .ensures .1) in
-    state-steps _ f (step .step-in .last .0) (full step) _ (step .step-in .result) (start .wide .ensures .0) (end .wide2 .ensures .0)
+    places-step _ f (step .step-in .last .0) (full step) _ (step .step-in .result) (start .wide .ensures .0) (end .wide2 .ensures .0)
     (c .before .narrow .ensures ∙ mod-eq-of-lt (few .0)) (c .narrow2 .ensures ∙ mod-eq-of-lt (few .1)) (step .step-in .ensures)
 
 pub step-spec : {M : Type 1} → statement M
