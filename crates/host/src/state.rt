@@ -1,6 +1,5 @@
 // The stream, over the host's state: 74 lent bytes.
-use host_answer::reply::answer_call;
-use host_answer::reply::tell_position;
+use host_answer::call::call;
 use host_answer::restored::answer_restored;
 use host_answer::written::answer_written;
 ghost use mathlib.Core.Path.{_≡_};
@@ -14,10 +13,7 @@ ghost use Rattle.host_answer.specs.Reply.{Calls};
 pub extern "C" fn crsf_next_raw_packet(state: &mut [u8], input: &[u8], position: &mut [u64]) -> u64
     ensures { λ r. ⌜ Calls (now (state .entry)) (now (input .entry)) (now (position .entry)) (now (state .exit)) (now (position .exit)) r ⌝ }
 {
-    let answered = host_state::step(state, input);
-    let answer = answer_call(answered);
-    tell_position(answer, answered.position, position);
-    answer
+    call(state, input, position)
 }
 
 // Forgets the held bytes. A new stream begins.

@@ -17,10 +17,11 @@ use Rattle.stream.specs.declared.step.Place.{Place}
 use Rattle.stream.specs.declared.step.Place.the-variants.{InPiece, InHeld}
 use Rattle.stream.specs.declared.step.Reply.{Reply}
 use Rattle.stream.specs.declared.step.Reply.the-variants.{More, Frame, Refused}
-use Rattle.stream.specs.declared.step.Replied.{Replied}
+use Rattle.numbered.specs.declared.Answered.{Answered}
 use Rattle.stream.proofs.Bounds.{taken-bound, piece-bound, place-bound}
-use Rattle.host_state.specs.State.{hasSize}
-use Rattle.host_state.specs.Step.{StateSteps}
+use Rattle.host_state.specs.State.{isState}
+use Rattle.host_state.specs.Step.{canNumber, StateSteps}
+use Rattle.host_state.proofs.Laws.{invalid-refused, beyond-refused, as-steps-in}
 use Rattle.host_answer.specs.declared.answer.HostAnswer.{HostAnswer}
 use Rattle.host_answer.specs.Answer.{packed, answerRow, answers, inBytes}
 use Rattle.host_answer.specs.Reply.{answerFrame, answerReply, answerCall}
@@ -75,11 +76,27 @@ reply-fits t More few piece held = omega arith
 reply-fits t (Frame p) few piece held = place-fits t p few piece held
 reply-fits t (Refused r) few piece held = omega arith
 
-pub call-fits : {before input after : List ℕ} {r : Replied} → StateSteps before input after r → Fits (answerCall r)
+refused-fits : {x : Refusal} (r : Answered) → r .taken ≡ 0 → r .reply ≡ Refused x → Fits (answerCall r)
 unfolding answerReply
+refused-fits {x} r t e = rw (t, e) (omega arith)
+
+pub call-fits : {before input after : List ℕ} {r : Answered} → StateSteps before input after r → Fits (answerCall r)
 call-fits {before} {input} {after} {r} call =
-    by-test (hasSize before)
-    (λ t.
-    let steps = call .steps t in
+    by-test (isState before)
+    (λ good.
+    by-test (canNumber before input)
+    (λ can.
+    let steps = as-steps-in call good can in
     reply-fits (r .taken) (r .reply) (taken-bound steps .1) (λ n e. piece-bound steps n e .1) (place-bound steps))
-    (λ t. rw (call .refuses t .0) (omega arith))
+    (λ far. let x = beyond-refused call good far in refused-fits r (x .0) (x .1)))
+    (λ bad. let x = invalid-refused call bad in refused-fits r (x .0) (x .1))
+
+-- a frame in the state lies among its places
+pub frame-inside : {before input after : List ℕ} {r : Answered} → StateSteps before input after r → (at n : ℕ) → r .reply ≡ Frame (InHeld at n) → at + n ≤ limit
+frame-inside {before} {input} {after} {r} call at n e =
+    by-test (isState before)
+    (λ good.
+    by-test (canNumber before input)
+    (λ can. place-bound (as-steps-in call good can) at n e)
+    (λ far. absurd (let x = beyond-refused call good far .1 in let z : _≡_ {A = ℕ} 0 1 = cc in omega arith)))
+    (λ bad. absurd (let x = invalid-refused call bad .1 in let z : _≡_ {A = ℕ} 0 1 = cc in omega arith))

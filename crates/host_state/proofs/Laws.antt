@@ -24,13 +24,13 @@ use Rattle.reading.specs.Call.{call}
 use Rattle.reading.specs.History.{answered}
 use Rattle.reading.specs.Positions.{greatest, behind, isWithin}
 use Rattle.stream.specs.Places.{heldIn}
-use Rattle.stream.specs.Step.{isSpan, Moves}
+use Rattle.stream.specs.Step.{isSpan, Moves, Steps}
 use Rattle.stream.specs.declared.step.Reply.the-variants.{Refused}
 use Rattle.stream.proofs.Held.{length-held}
 use Rattle.numbered.specs.declared.Advanced.{Advanced}
 use Rattle.numbered.specs.declared.Answered.{Answered}
 use Rattle.numbered.proofs.Within.{is-within}
-use Rattle.numbered.proofs.Steps.{still-at}
+use Rattle.numbered.proofs.Steps.{as-steps, still-at}
 use Rattle.saved.specs.Form as forms
 use Rattle.saved.specs.Form.{savedForm, isSavable, canSave, isForm, heldOf}
 use Rattle.saved.specs.Save.{saveImage, heldRow}
@@ -88,6 +88,10 @@ module _ {before input after : List ℕ} {r : Answered} (steps : StateSteps befo
     pub moves : Moves limit (placesIn before) (startIn before) (endIn before) input (placesIn after) (advancedIn after r .moved)
     unfolding canNumber
     moves = steps .steps (has-size before (state-size before good)) .moves (state-span before good) can
+
+    pub as-steps-in : Steps limit (placesIn before) (startIn before) (endIn before) input (placesIn after) (advancedIn after r .moved)
+    unfolding canNumber
+    as-steps-in = as-steps (state-span before good) can (steps .steps (has-size before (state-size before good)))
 
     -- it stands behind its answer, if it gives one
     pub goes-to : positionIn after ≡ behind (positionIn before) (answered (call limit (heldBy before) input .answer))

@@ -9,10 +9,10 @@ use native.Mathlib.Omega.{arith}
 use borrow.Author.Tests.{eqb-true, eq-eqb, not-true, not-false}
 use lib.Dec.{lit<}
 use lib.ListN.{length, take, drop, set, length-append, length-drop, length-set, drop-of-length-le, take-append-drop}
-use lib.Seq.{take-at, drop-at, length-take-le, take-all, take-append-le, drop-drop}
+use lib.Seq.{take-at, drop-at, length-take-le, take-all, take-take, drop-drop}
 use Rattle.base.specs.Bytes.{Bytes}
 use Rattle.base.specs.Parts.{part, pasted, placed}
-use Rattle.base.proofs.Parts.{length-part, placed-fits}
+use Rattle.base.proofs.Parts.{length-part, drop-take, placed-fits}
 use Rattle.base.proofs.Tests.{not-as}
 use Rattle.numbers.specs.BigEndian.{beOf, bytesOf}
 use Rattle.numbers.proofs.BigEndian.{length-bytesOf, beOf-bytesOf}
@@ -57,6 +57,11 @@ module _ (s : List ℕ) where
   state-bounds e = span-bounds limit (startIn s) (endIn s) (state-span e) .1
 
 -- ---- the four parts of a state
+
+-- a part of the places, as a part of the state
+pub part-of-places : (s : List ℕ) (p n : ℕ) → p + n ≤ limit → part s (2 + p) n ≡ part (placesIn s) p n
+part-of-places s p n inside =
+    ap (take n) (sym (drop-drop p 2 s)) ∙ sym (take-take n (limit - p) (drop p (drop 2 s)) (omega arith)) ∙ ap (take n) (sym (drop-take p limit (drop 2 s)))
 
 module _ (s : List ℕ) (fits : length s ≡ size) where
   pub places-count : length (placesIn s) ≡ limit

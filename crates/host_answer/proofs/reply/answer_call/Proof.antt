@@ -1,10 +1,11 @@
 -- `host_answer::reply::answer_call` meets its contract. Assumes nothing.
 use mathlib.Core.Path.{_≡_, ap, _∙_}
-use Prim.Native.Nat.{_+_, _%_}
+use Prim.Native.Nat.{ℕ, _+_, _%_}
 use native.Mathlib.Omega.{arith}
 use Rattle.host_state.specs.State.{placesAt}
 use Rattle.host_answer.specs.Answer.{packed}
-use Rattle.host_answer.specs.Reply.{answerReply}
+use Rattle.host_answer.specs.declared.reply.Told.{Told}
+use Rattle.host_answer.specs.Reply.{answerReply, droppedIn}
 use borrow.Author.Needs.{needs}
 use Rattle.host_answer.proofs.reply.answer_call.Statement.{statement}
 use Rattle.host_answer.proofs.reply.answer_call.Tie as tie
@@ -63,39 +64,50 @@ carried-requires c κs = search needs
 pack-requires-4 : tie.Need-pack-requires-4
 pack-requires-4 c κs = search needs
 
+told-eq : {x y : ℕ} {d e : ℕ} → x ≡ y → d ≡ e → _≡_ {A = Told} (record { answer = x; dropped = d }) (record { answer = y; dropped = e })
+told-eq p q = cc
+
 returns : tie.Need-returns
-unfolding answerReply
+unfolding answerReply droppedIn
 returns c =
     let says = c .before in
     let known = says .before in
-    c .pack .ensures ∙ ap packed (rw (says .said .ensures, known .before .before .narrow .ensures, known .enum-told .given .1))
+    told-eq
+    (c .pack .ensures ∙ ap packed (rw (says .said .ensures, known .before .before .narrow .ensures, known .enum-told .given .1)))
+    (rw (known .enum-told .given .1))
 
 returns-2 : tie.Need-returns-2
-unfolding answerReply
+unfolding answerReply droppedIn
 returns-2 c =
     let says = c .before in
     let place = says .before .before .before in
     let reply = place .before .before .before in
-    c .pack2 .ensures
-    ∙ ap packed (rw (says .placed .ensures, says .before .narrow2 .ensures, reply .before .before .narrow .ensures, reply .reply .given .1, place .place .given .1))
+    told-eq
+    (c .pack2 .ensures
+    ∙ ap packed (rw (says .placed .ensures, says .before .narrow2 .ensures, reply .before .before .narrow .ensures, reply .reply .given .1, place .place .given .1)))
+    (rw (reply .reply .given .1, place .place .given .1))
 
 returns-3 : tie.Need-returns-3
-unfolding answerReply
+unfolding answerReply droppedIn
 returns-3 c =
     let says = c .before in
     let offset = says .before .before in
     let place = offset .before .before in
     let reply = place .before .before .before in
     let at : offset .narrow3 .result ≡ (placesAt + place .place2 .given .0 .0) % 256 = omega arith in
-    c .pack3 .ensures
-    ∙ ap packed (rw (says .placed2 .ensures, says .before .narrow4 .ensures, at, reply .before .before .narrow .ensures, reply .reply .given .1, place .place2 .given .1))
+    told-eq
+    (c .pack3 .ensures
+    ∙ ap packed (rw (says .placed2 .ensures, says .before .narrow4 .ensures, at, reply .before .before .narrow .ensures, reply .reply .given .1, place .place2 .given .1)))
+    (rw (reply .reply .given .1, place .place2 .given .1))
 
 returns-4 : tie.Need-returns-4
-unfolding answerReply
+unfolding answerReply droppedIn
 returns-4 c =
     let says = c .before in
     let reply = says .before .before in
-    c .pack4 .ensures ∙ ap packed (rw (says .carried .ensures, reply .before .before .narrow .ensures, reply .reply2 .given .1))
+    told-eq
+    (c .pack4 .ensures ∙ ap packed (rw (says .carried .ensures, reply .before .before .narrow .ensures, reply .reply2 .given .1)))
+    (rw (reply .reply2 .given .1))
 
 pub answer-call-spec : {M : Type 1} → statement M
 answer-call-spec =
