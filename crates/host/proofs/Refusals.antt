@@ -34,7 +34,7 @@ use Rattle.frames.proofs.Laws.{address-first, record-second, none-second, capac
 use Rattle.bursts.specs.Burst.{sixteens, valuesImage}
 use Rattle.bursts.proofs.Sixteens.{length-sixteens}
 use Rattle.bursts.proofs.Order.{FirstAt, values-channel-third}
-use Rattle.host_state.specs.Saving.{heldRowOf, resetState, stateImage, restoreState}
+use Rattle.host_state.specs.Saving.{heldRowOf, positionImage, resetState, stateImage, restoreState}
 use Rattle.host_answer.specs.Answer.{packed, answerRow, answers}
 use Rattle.host_answer.specs.Reply.{answerReply, Calls}
 use Rattle.host_answer.specs.Seen.{unpacked}
@@ -47,12 +47,16 @@ use Rattle.host.specs.Write.{writes}
 module _ (r : Refusal) where
   -- ---- the state
 
-  pub call-refuses : {before input after : List ℕ} {n : ℕ} (c : Calls before input after n) → c .replied .reply ≡ Refused r
-      → unpacked 8 n ≡ refusalBytes (c .replied .taken) r
+  pub call-refuses : {before input out after outAfter : List ℕ} {n : ℕ} (c : Calls before input out after outAfter n) → c .answered .reply ≡ Refused r
+      → unpacked 8 n ≡ refusalBytes (c .answered .taken) r
   unfolding answerReply
   call-refuses c e =
       let fits = simp e at (call-fits (c .steps) .0) in
-      ap (unpacked 8) (c .packs) ∙ rw e (refusal-bytes (c .replied .taken) r fits)
+      ap (unpacked 8) (c .packs) ∙ rw e (refusal-bytes (c .answered .taken) r fits)
+
+  pub position-refuses : (state out : List ℕ) → writeOf (positionImage state) out .0 ≡ rowOf r
+      → unpacked 8 (answers (writeOf (positionImage state) out) .0) ≡ refusalBytes 0 r
+  position-refuses state out = row-bytes r refl
 
   pub reset-refuses : (state : List ℕ) → resetState state .0 ≡ rowOf r → unpacked 8 (answers (resetState state) .0) ≡ refusalBytes 0 r
   reset-refuses state = row-bytes r refl

@@ -18,6 +18,7 @@ use Rattle.host.proofs.state.crsf_reset.Reads as reset
 use Rattle.host.proofs.state.crsf_save.Reads as save
 use Rattle.host.proofs.state.crsf_restore.Reads as restore
 use Rattle.host.proofs.state.crsf_held.Reads as held
+use Rattle.host.proofs.state.crsf_position.Reads as position
 use Rattle.host.proofs.write.crsf_write_link_statistics.Reads as write-link-statistics
 use Rattle.host.proofs.write.crsf_write_rc_channels_packed.Reads as write-rc-channels-packed
 use Rattle.host.proofs.write.crsf_write_gps.Reads as write-gps
@@ -54,8 +55,8 @@ use Rattle.host.proofs.Shown.{by-answer}
 
 -- ---- The state
 
-pub next-raw-packet-one : OneAnswer {Seen = SeenCall} next-raw-packet.Post (λ κs r s. seenCall r (now (s .0)))
-next-raw-packet-one κs a r r′ s s′ = one-call (now (a .0)) (now (a .1 .0))
+pub next-raw-packet-one : OneAnswer {Seen = SeenCall} next-raw-packet.Post (λ κs r s. seenCall r (now (s .0)) (now (s .1 .1 .0)))
+next-raw-packet-one κs a r r′ s s′ = one-call (now (a .0)) (now (a .1 .0)) (now (a .1 .1 .0))
 
 pub reset-one : OneAnswer {Seen = ℕ × List ℕ} reset.Post (λ κs r s. (r, now (s .0)))
 reset-one κs a r r′ s s′ = same
@@ -68,6 +69,9 @@ restore-one κs a r r′ s s′ = same
 
 pub held-one : OneAnswer {Seen = ℕ} held.Post (λ κs r s. r)
 held-one κs a r r′ s s′ = same
+
+pub position-one : OneAnswer {Seen = ℕ × List ℕ} position.Post (λ κs r s. (r, now (s .1 .0)))
+position-one κs a r r′ s s′ = same
 
 -- ---- Writers
 

@@ -7,13 +7,12 @@ use Prim.Native.Nat.{ℕ, zero, suc, _+_, _-_, _<_}
 use native.Mathlib.Nat.{mod-eq-of-lt}
 use lib.Dec.{ltb, lit<}
 use lib.ListN.{length, getD}
-use lib.Seq.{getD-drop}
 use Rattle.base.specs.Bytes.{Bytes}
 use Rattle.base.proofs.Parts.{bytes-part}
 use Rattle.base.proofs.Tests.{by-test}
 use Rattle.refusals.specs.Row.{rowOf, numberOf}
 use Rattle.refusals.specs.declared.Refusal.{Refusal}
-use Rattle.refusals.specs.declared.Refusal.the-variants.{BadState}
+use Rattle.refusals.specs.declared.Refusal.the-variants.{BadState, PositionRange}
 use Rattle.crc.proofs.Laws.{remainder-lt}
 use Rattle.reading.specs.Answer as reading
 use Rattle.reading.specs.Answer.{Answer, covered, row, candidate}
@@ -21,13 +20,12 @@ use Rattle.reading.specs.Reading.{limit, First, stop, says, first}
 use Rattle.reading.specs.Call.{call}
 use Rattle.reading.proofs.First.{stands}
 use Rattle.reading.proofs.Call.{answers-first}
-use Rattle.stream.specs.Places.{heldIn}
-use Rattle.stream.specs.Step.{Said, more, frame, refused, saidOf, meaningOf, Outcome, isSpan}
+use Rattle.stream.specs.Step.{Said, more, frame, refused, saidOf, meaningOf, Outcome}
 use Rattle.stream.specs.declared.step.Reply.{Reply}
 use Rattle.stream.specs.declared.step.Reply.the-variants.{Refused}
-use Rattle.stream.specs.declared.step.Replied.{Replied}
-use Rattle.stream.specs.declared.step.Moved.{Moved}
-use Rattle.host_state.specs.State.{startIn, endIn, placesIn, hasSize}
+use Rattle.host_state.specs.State.{startIn, endIn, placesIn, heldBy, isState}
+use Rattle.host_state.specs.Step.{canNumber}
+use Rattle.host_state.proofs.Laws.{invalid-refused, beyond-refused, moves}
 use Rattle.host_answer.specs.Reply.{Calls}
 use Rattle.host_answer.specs.Seen.{unpacked}
 use Rattle.host.proofs.Refusals.{call-refuses}
@@ -65,27 +63,27 @@ said-whole m s ofHeld (says (reading.InvalidPacketLength c)) b e = answer-whole 
 said-whole m s ofHeld (says (reading.InvalidCrc c)) b e = answer-whole m s (reading.InvalidCrc c) b e
 said-whole m s ofHeld (says (reading.Frame c)) b e = (lit< tt, lit< tt)
 
-bad-state : (r : Refusal) {a : Reply} → a ≡ Refused r → a ≡ Refused BadState → Whole (rowOf r)
-bad-state r e bad = let is : r ≡ BadState = cc in rw is (lit< tt, lit< tt)
+none-carried : (r x : Refusal) {a : Reply} → Whole (rowOf x) → a ≡ Refused r → a ≡ Refused x → Whole (rowOf r)
+none-carried r x w e bad = let is : r ≡ x = cc in rw is w
 
-module _ {before input after : List ℕ} {n : ℕ} (c : Calls before input after n) (r : Refusal) (is : c .replied .reply ≡ Refused r) (bs : Bytes before) (bi : Bytes input) where
+module _ {before input out after outAfter : List ℕ} {n : ℕ} (c : Calls before input out after outAfter n) (r : Refusal) (is : c .answered .reply ≡ Refused r)
+    (bs : Bytes before) (bi : Bytes input) where
   values-whole : Whole (rowOf r)
   unfolding meaningOf
   values-whole =
-      by-test (hasSize before)
-      (λ fits.
-      let steps = c .steps .steps fits in
-      by-test (isSpan limit (startIn before) (endIn before))
-      (λ span.
-      let held = heldIn (placesIn before) (startIn before) (endIn before) in
-      let places : Bytes (placesIn before) = λ i. rw (getD-drop 2 before i 0) (bs (2 + i)) in
+      by-test (isState before)
+      (λ good.
+      by-test (canNumber before input)
+      (λ can.
+      let held = heldBy before in
+      let places : Bytes (placesIn before) = bytes-part before 2 limit bs in
       let all = bytes-append held input (bytes-part (placesIn before) (startIn before) (endIn before - startIn before) places) bi in
-      let said = ap (λ (a : Reply). meaningOf a input (placesIn after)) (sym is) ∙ ap (λ (o : Outcome). o .said) (steps .moves span .outcome) in
+      let said = ap (λ (a : Reply). meaningOf a input (placesIn after)) (sym is) ∙ ap (λ (o : Outcome). o .said) (moves (c .steps) good can .outcome) in
       rw (ap rowIn said) (said-whole limit (held ++ input) (ltb 0 (length held)) (call limit held input .answer) all (answers-first limit held input)))
-      (λ bad. bad-state r is (ap (λ (m : Moved). m .reply) (steps .refuses bad .0))))
-      (λ wrong. bad-state r is (ap (λ (p : Replied). p .reply) (c .steps .refuses wrong .0)))
+      (λ far. none-carried r PositionRange (lit< tt, lit< tt) is (beyond-refused (c .steps) good far .1)))
+      (λ bad. none-carried r BadState (lit< tt, lit< tt) is (invalid-refused (c .steps) bad .1))
 
-  pub call-refuses-whole : unpacked 8 n ≡ numberOf r ∷ c .replied .taken ∷ 0 ∷ 0 ∷ 0 ∷ getD (rowOf r) 1 0 ∷ getD (rowOf r) 2 0 ∷ 0 ∷ []
+  pub call-refuses-whole : unpacked 8 n ≡ numberOf r ∷ c .answered .taken ∷ 0 ∷ 0 ∷ 0 ∷ getD (rowOf r) 1 0 ∷ getD (rowOf r) 2 0 ∷ 0 ∷ []
   call-refuses-whole =
       call-refuses r c is
-      ∙ ap₂ (λ (x y : ℕ). numberOf r ∷ c .replied .taken ∷ 0 ∷ 0 ∷ 0 ∷ x ∷ y ∷ 0 ∷ []) (mod-eq-of-lt (values-whole .0)) (mod-eq-of-lt (values-whole .1))
+      ∙ ap₂ (λ (x y : ℕ). numberOf r ∷ c .answered .taken ∷ 0 ∷ 0 ∷ 0 ∷ x ∷ y ∷ 0 ∷ []) (mod-eq-of-lt (values-whole .0)) (mod-eq-of-lt (values-whole .1))
