@@ -4,7 +4,7 @@
 mod command;
 
 use lines::line::LONGEST;
-use lines::line::list_held;
+use lines::line::put_held;
 use listing::Listed;
 use listing::Status;
 use listing::list_in;
@@ -197,7 +197,7 @@ fn list_reads(fd: i32, places: &mut [u8], out: &mut [u8], piece: &mut [u8]) -> S
 
 fn write_held(held: u8) -> bool {
     let mut line = [0u8; LONGEST];
-    let n = list_held(&mut line, held);
+    let n = put_held(held, &mut line, 0);
     print(&line[..n])
 }
 

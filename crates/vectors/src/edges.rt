@@ -4,7 +4,7 @@ use crate::show::spelled;
 use altitude::Decimetres;
 use channels::RcChannelsPacked;
 use libc::STDOUT_FILENO;
-use lines::line::list_held;
+use lines::line::put_held;
 use listing::list_in;
 use records::battery::Battery;
 use stream::LIMIT;
@@ -24,7 +24,7 @@ fn gives(input: &[u8]) {
     let end = listed.end;
     if start <= end {
         if end - start < LIMIT {
-            let m = list_held(&mut out, (end - start) as u8);
+            let m = put_held((end - start) as u8, &mut out, 0);
             if m <= out.len() {
                 io::write_all(STDOUT_FILENO, &out[0..m]);
             }
