@@ -1,7 +1,7 @@
 -- The line that the code writes of a call is the line of the reading's answer.
 -- Assumes nothing.
 use mathlib.Core.Path.{_≡_, refl, sym, ap, _∙_, subst}
-use mathlib.Core.Bool.{Bool, true}
+use mathlib.Core.Bool.{Bool, true, false}
 use mathlib.Core.List.{List, [], _++_, append-nil}
 use Prim.Native.Nat.{ℕ, _+_, _-_, _≤_}
 use native.Mathlib.Nat.{add-zero}
@@ -22,11 +22,16 @@ use Rattle.stream.specs.declared.step.Reply.{Reply}
 use Rattle.stream.specs.declared.step.Reply.the-variants.{More, Frame, Refused}
 use Rattle.stream.specs.declared.step.Moved.{Moved}
 use Rattle.stream.specs.Places.{heldIn}
-use Rattle.stream.specs.Step.{Said, more, frame, refused, saidOf, meaningOf, Moves}
+use Rattle.stream.specs.Step.{Said, more, frame, refused, saidOf, meaningOf, asksForMore, isSpan, Moves, Steps}
 use Rattle.stream.proofs.Replies.{said-is}
+use Rattle.stream.proofs.Loop as loop
 use Rattle.lines.specs.Lines.{frameLine, frameLineAt, line, refusalLine, linesOf}
 use Rattle.lines.specs.Put.{lineBy}
 use Rattle.lines.proofs.Rows.{lineOf, line-of-row}
+use Rattle.listing.specs.Numbering.{lead, textOf}
+use Rattle.listing.specs.declared.numbering.Numbering.{Numbering}
+use Rattle.listing.specs.declared.numbering.Numbering.the-variants.{Off}
+use Rattle.listing.proofs.Numberings.{no-line, one-line}
 
 -- the line of what is said
 unfoldable lineSaid : Said → List ℕ
@@ -104,3 +109,17 @@ module _ {m : ℕ} {before : List ℕ} {start end : ℕ} {input after : List ℕ
 
   pub line-is : linesOf (answered answer) ≡ lineBy (r .reply) input after
   line-is = sym (line-meant (r .reply) input after frames ∙ ap lineSaid (said-is moved) ∙ line-read (ltb 0 (length held)) answer)
+
+-- a turn with a numbering: nothing where it asks for more, else what stands before the line, and the line
+module _ (n : Numbering) {before : List ℕ} {start end : ℕ} {input after : List ℕ} {r : Moved} (good : isSpan (length before) start end ≡ true)
+    (steps : Steps (length before) before start end input after r) where
+  abbrev said : First
+  said = call (length before) (heldIn before start end) input .answer
+
+  pub turn-asks : asksForMore (r .reply) ≡ true → textOf n (answered said) ≡ []
+  turn-asks asked = no-line n (loop.asks (loop.begin before start end input good) steps asked)
+
+  pub turn-says : asksForMore (r .reply) ≡ false → textOf n (answered said) ≡ lead n ++ lineBy (r .reply) input after
+  turn-says answers =
+      loop.answers (loop.begin before start end input good) steps answers
+      (λ a e. one-line n a e ∙ ap (λ (l : List ℕ). lead n ++ l) (sym (one-line Off a e) ∙ line-is (steps .moves good)))

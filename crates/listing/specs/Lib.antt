@@ -1,4 +1,6 @@
--- `Listing`: the definition. `Fill`: the promise of the code. `Whole`: all that the program writes. `Examples`: inputs and their texts.
+-- `Numbering`: what stands before the lines. `Listing`: the definition. `Fill`: the promise of the code. `Whole`: all that the programs write.
+-- `Examples`: inputs and their texts.
+pub mod Numbering
 pub mod Listing
 pub mod Fill
 pub mod Whole

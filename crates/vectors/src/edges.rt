@@ -6,6 +6,7 @@ use channels::RcChannelsPacked;
 use libc::STDOUT_FILENO;
 use lines::line::put_held;
 use listing::list_in;
+use listing::numbering::Numbering;
 use records::battery::Battery;
 use stream::LIMIT;
 
@@ -15,7 +16,7 @@ fn gives(input: &[u8]) {
     io::write_all(STDOUT_FILENO, b"gives\n");
     let mut places = [0u8; LIMIT];
     let mut out = [0u8; 256];
-    let listed = list_in(&mut places, 0, 0, input, &mut out);
+    let listed = list_in(&mut places, 0, 0, Numbering::Off, input, &mut out);
     let n = listed.written;
     if n <= out.len() {
         io::write_all(STDOUT_FILENO, &out[0..n]);

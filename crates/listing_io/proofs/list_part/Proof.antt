@@ -8,10 +8,10 @@ use Rattle.listing_io.proofs.list_part.Statement.{statement}
 use Rattle.listing_io.proofs.list_part.Tie as tie
 
 -- what is written of the buffer lies within it
-fits : (c : tie.After-list-in) → c .list-in .result .written ≤ length (c .list-in .last .1 .1 .1 .1 .0)
+fits : (c : tie.After-list-in) → c .list-in .result .written ≤ length (c .list-in .last .1 .1 .1 .1 .1 .0)
 fits c =
     let start = c .before .before .before .before .before .before in
-    omega (arith, list-fits (c .list-in .ensures) (start .pre .ordered) (start .pre .inside) .1 .0, c .list-in .kept .1 .1 .1 .1 .0)
+    omega (arith, list-fits (c .list-in .ensures) (start .pre .ordered) (start .pre .inside) .1 .0, c .list-in .kept .1 .1 .1 .1 .1 .0)
 
 list-in-requires : tie.Need-list-in-requires
 list-in-requires c κs = search needs

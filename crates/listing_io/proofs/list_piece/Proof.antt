@@ -1,42 +1,37 @@
 -- `listing_io::list_piece` meets its contract. The measure is the number of turns that are left. Assumes nothing.
 use mathlib.Core.Path.{subst, sym, _∙_}
 use mathlib.Core.List.{List}
-use Prim.Native.Nat.{ℕ, _+_}
+use Prim.Native.Nat.{ℕ}
 use native.Mathlib.Omega.{arith}
 use lib.ListN.{drop}
 use Rattle.stream.proofs.Loop.{unread-is}
 use Rattle.listing.specs.Fill.{Lists}
-use Rattle.listing_io.proofs.Kept.{Kept, begin, not-listed, now-sound, again, leaves}
+use Rattle.listing_io.proofs.Kept.{Kept, begin, not-listed, now-sound, sound′, takes, places-kept, out-kept, again, leaves}
 use Rattle.listing_io.proofs.list_piece.Statement.{statement}
 use Rattle.listing_io.proofs.list_piece.Tie as tie
 
 abbrev Inv-loop : tie.InvT-loop
-Inv-loop places₀ out₀ start end piece from₀ to₀ taken₀ turns₀ places out from to taken turns =
-    Kept places₀ out₀ start end piece places out from to taken
+Inv-loop places₀ out₀ start end piece from₀ to₀ number₀ taken₀ turns₀ places out from to number taken turns =
+    Kept places₀ out₀ start end number₀ piece places out from to number taken
 
 abbrev μ-loop : tie.MeasureT-loop
-μ-loop places₀ out₀ start end piece from₀ to₀ taken₀ turns₀ places out from to taken turns = turns
+μ-loop places₀ out₀ start end piece from₀ to₀ number₀ taken₀ turns₀ places out from to number taken turns = turns
 
 -- a turn over what is unread
 turn : (c : tie.After-list-part Inv-loop μ-loop)
     → (let at = c .before .before .before .before .before in let s = at .loop in let part = c .list-part in
-    Lists (s .places) (s .from) (s .to) (drop (s .taken) (at .before .before .before .before .args .piece .now)) (s .out) (part .last .0) (part .last .1 .0) (part .result .listed))
+    Lists (s .places) (s .from) (s .to) (s .number) (drop (s .taken) (at .before .before .before .before .args .piece .now)) (s .out) (part .last .0) (part .last .1 .0) (part .result .listed))
 turn c =
     let at = c .before .before .before .before .before in
     let s = at .loop in
     let part = c .list-part in
-    subst (λ (l : List ℕ). Lists (s .places) (s .from) (s .to) l (s .out) (part .last .0) (part .last .1 .0) (part .result .listed))
+    subst
+    (λ (l : List ℕ). Lists (s .places) (s .from) (s .to) (s .number) l (s .out) (part .last .0) (part .last .1 .0) (part .result .listed))
     (unread-is (at .before .before .before .before .args .piece .now) (s .taken))
     (part .ensures)
 
--- what it leaves
-kept : (c : tie.After-list-part Inv-loop μ-loop)
-    → (let at = c .before .before .before .before .before in let a = at .before .before .before .before .args in let part = c .list-part in let r = part .result .listed in
-    Kept (a .places .now) (a .out .now) (a .start) (a .end) (a .piece .now) (part .last .0) (part .last .1 .0) (r .start) (r .end) (at .loop .taken + r .taken))
-kept c = again (c .before .before .before .before .before .loop .inv) (c .list-part .kept .0) (c .list-part .kept .1 .0) (turn c)
-
 loop-holds : tie.Need-loop-holds Inv-loop μ-loop
-loop-holds c = let start = c .before .before .before in begin (start .args .piece .now) (start .pre)
+loop-holds c = let start = c .before .before .before in begin (start .args .numbering) (start .args .piece .now) (start .pre)
 
 sub-turns : tie.Need-sub-turns Inv-loop μ-loop
 sub-turns c = omega arith
@@ -54,37 +49,55 @@ list-part-requires : tie.Need-list-part-requires Inv-loop μ-loop
 list-part-requires c κs = now-sound (c .before .before .before .before .loop .inv)
 
 add-taken : tie.Need-add-taken Inv-loop μ-loop
-add-taken c = omega (arith, kept (c .before .before .before .before .before .before) .taken-in)
+add-taken c =
+    let part = c .before .before .before .before .before .before in
+    let start = part .before .before .before .before .before .before .before .before .before in
+    omega (arith, start .good .1 .1 .1 .1 .1 .0 .0, takes (part .before .before .before .before .before .loop .inv) (part .list-part .kept .0) (part .list-part .kept .1 .0) (turn part))
 
 same-length : tie.Need-same-length Inv-loop μ-loop
-same-length c = kept (c .before .before .before .before .before .before .before .before) .places-size
+same-length c =
+    let part = c .before .before .before .before .before .before .before .before in
+    places-kept (part .before .before .before .before .before .loop .inv) (part .list-part .kept .0) (part .list-part .kept .1 .0) (turn part)
 
 same-length-2 : tie.Need-same-length-2 Inv-loop μ-loop
-same-length-2 c = kept (c .before .before .before .before .before .before .before .before) .out-size
+same-length-2 c =
+    let part = c .before .before .before .before .before .before .before .before in
+    out-kept (part .before .before .before .before .before .loop .inv) (part .list-part .kept .0) (part .list-part .kept .1 .0) (turn part)
 
 returns : tie.Need-returns Inv-loop μ-loop
-returns c = not-listed (kept (c .before .before .before .before .before .before .before .before) .sound)
+returns c =
+    let part = c .before .before .before .before .before .before .before .before in
+    not-listed (sound′ (part .before .before .before .before .before .loop .inv) (part .list-part .kept .0) (part .list-part .kept .1 .0) (turn part))
 
 is-last-requires : tie.Need-is-last-requires Inv-loop μ-loop
 is-last-requires c κs = tt
 
+next-after-requires : tie.Need-next-after-requires Inv-loop μ-loop
+next-after-requires c κs = tt
+
 same-length-3 : tie.Need-same-length-3 Inv-loop μ-loop
-same-length-3 c = kept (c .before .before .before .before .before .before .before .before .before .before) .places-size
+same-length-3 c =
+    let part = c .before .before .before .before .before .before .before .before .before .before .before in
+    places-kept (part .before .before .before .before .before .loop .inv) (part .list-part .kept .0) (part .list-part .kept .1 .0) (turn part)
 
 same-length-4 : tie.Need-same-length-4 Inv-loop μ-loop
-same-length-4 c = kept (c .before .before .before .before .before .before .before .before .before .before) .out-size
+same-length-4 c =
+    let part = c .before .before .before .before .before .before .before .before .before .before .before in
+    out-kept (part .before .before .before .before .before .loop .inv) (part .list-part .kept .0) (part .list-part .kept .1 .0) (turn part)
 
 returns-2 : tie.Need-returns-2 Inv-loop μ-loop
 returns-2 c =
-    let part = c .before .before .before .before .before .before .before .before .before .before in
+    let part = c .before .before .before .before .before .before .before .before .before .before .before in
     leaves (part .before .before .before .before .before .loop .inv) (part .list-part .kept .0) (part .list-part .kept .1 .0) (turn part)
-    (sym (c .before .is-last .ensures) ∙ c .if2 .taken)
+    (sym (c .before .before .is-last .ensures) ∙ c .before .if2 .taken) (c .next-after .ensures)
 
 loop-less : tie.Need-loop-less Inv-loop μ-loop
 loop-less c = omega arith
 
 loop-again : tie.Need-loop-again Inv-loop μ-loop
-loop-again c = kept (c .before .before .before .before .before .before .before .before .before .before)
+loop-again c =
+    let part = c .before .before .before .before .before .before .before .before .before .before in
+    again (part .before .before .before .before .before .loop .inv) (part .list-part .kept .0) (part .list-part .kept .1 .0) (turn part) (sym (c .before .is-last .ensures) ∙ c .if2 .left)
 
 same-length-5 : tie.Need-same-length-5 Inv-loop μ-loop
 same-length-5 c = c .before .loop .inv .places-size
@@ -112,6 +125,7 @@ list-piece-spec =
     same-length-2
     returns
     is-last-requires
+    next-after-requires
     same-length-3
     same-length-4
     returns-2

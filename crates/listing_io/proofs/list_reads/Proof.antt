@@ -9,11 +9,11 @@ use Rattle.listing_io.proofs.list_reads.Statement.{statement}
 use Rattle.listing_io.proofs.list_reads.Tie as tie
 
 abbrev Inv-loop : tie.InvT-loop
-Inv-loop fd places₀ out₀ piece₀ start₀ end₀ turns₀ places out piece start end turns =
+Inv-loop fd places₀ out₀ piece₀ start₀ end₀ number₀ turns₀ places out piece start end number turns =
     (Sound (length places₀) start end) × ((length places ≡ length places₀) × ((length out ≡ length out₀) × (length piece ≡ length piece₀)))
 
 abbrev μ-loop : tie.MeasureT-loop
-μ-loop fd places₀ out₀ piece₀ start₀ end₀ turns₀ places out piece start end turns = turns
+μ-loop fd places₀ out₀ piece₀ start₀ end₀ number₀ turns₀ places out piece start end number turns = turns
 
 -- what a read leaves
 kept : (c : tie.After-list-read Inv-loop μ-loop)
