@@ -64,12 +64,13 @@ fn print_purpose(is_numbered: bool) -> bool {
         return print(
             b"usage: where [FILE]
 
-Lists the CRSF frames of an upload, or of standard input where FILE is - or is not named, as list does. Before each line
-stands where it begins in the input, in bytes from 0:
-  0 frame C8 16 22   a frame, which begins with the first byte: address, packet type, payload length
+Lists the CRSF frames of an upload, or of standard input where FILE is - or is not named, as list does, and says of each
+line where it begins, in bytes from 0. Each line is written as soon as it is known:
+  0 frame C8 16 22   a frame: address, packet type, payload length
   26 sync 55         a byte that is not an address
-  27 held 3          the last line: the input has ended, and this many bytes, from there on, wait for the rest of a frame
-What the lines say, list --help tells.
+  27 length 3F       after an address, a length byte that is not 2 to 62
+  30 crc 00 01       the check byte should be the first and is the second
+  99 held 3          the last line: the input has ended, and this many bytes, from there on, wait for the rest of a frame
 ",
         );
     }

@@ -1,0 +1,3 @@
+fn main() {
+    where_io::crsf_where();
+}
