@@ -13,14 +13,14 @@ use Rattle.cuts.proofs.feed.Tie as tie
 
 -- what a call on the rest takes is there
 within : (piece : List ℕ) (at : ℕ) {p : CrsfParser} {r : Stepped} → at ≤ length piece → Nexts p (take (length piece - at) (drop at piece)) r
-    → at + r .replied .taken ≤ length piece
+    → at + r .answered .taken ≤ length piece
 within piece at inside n = omega (arith, takes-within n, length-take (length piece - at) (drop at piece), length-drop at piece)
 
 abbrev Inv-loop : tie.InvT-loop
-Inv-loop lent piece p₀ at₀ left₀ p at left = at ≤ length piece
+Inv-loop way piece p₀ at₀ left₀ p at left = at ≤ length piece
 
 abbrev μ-loop : tie.MeasureT-loop
-μ-loop lent piece p₀ at₀ left₀ p at left = left
+μ-loop way piece p₀ at₀ left₀ p at left = left
 
 loop-holds : tie.Need-loop-holds Inv-loop μ-loop
 loop-holds c = search needs
@@ -37,11 +37,11 @@ part-rest-end c = search needs
 next-requires : tie.Need-next-requires Inv-loop μ-loop
 next-requires c κs = search needs
 
-slice-aggregate-print-reply : tie.Need-slice-aggregate-print-reply Inv-loop μ-loop
-slice-aggregate-print-reply c = search needs
+slice-aggregate-print-answer : tie.Need-slice-aggregate-print-answer Inv-loop μ-loop
+slice-aggregate-print-answer c = search needs
 
-print-reply-requires : tie.Need-print-reply-requires Inv-loop μ-loop
-print-reply-requires c κs = search needs
+print-answer-requires : tie.Need-print-answer-requires Inv-loop μ-loop
+print-answer-requires c κs = search needs
 
 add-at : tie.Need-add-at Inv-loop μ-loop
 add-at c =
@@ -81,8 +81,8 @@ feed-spec =
     part-rest-start
     part-rest-end
     next-requires
-    slice-aggregate-print-reply
-    print-reply-requires
+    slice-aggregate-print-answer
+    print-answer-requires
     add-at
     asks-for-more-requires
     returns

@@ -6,10 +6,10 @@ use Rattle.cuts.proofs.feed_all.Statement.{statement}
 use Rattle.cuts.proofs.feed_all.Tie as tie
 
 abbrev Inv-loop : tie.InvT-loop
-Inv-loop lent input size p₀ at₀ p at = (at ≤ length input) × (1 ≤ size)
+Inv-loop way input size p₀ at₀ p at = (at ≤ length input) × (1 ≤ size)
 
 abbrev μ-loop : tie.MeasureT-loop
-μ-loop lent input size p₀ at₀ p at = length input - at
+μ-loop way input size p₀ at₀ p at = length input - at
 
 reset-requires : tie.Need-reset-requires Inv-loop μ-loop
 reset-requires c κs = search needs
@@ -38,6 +38,9 @@ part-feed-end c = search needs
 feed-requires : tie.Need-feed-requires Inv-loop μ-loop
 feed-requires c κs = search needs
 
+kept-requires : tie.Need-kept-requires Inv-loop μ-loop
+kept-requires c κs = search needs
+
 loop-less : tie.Need-loop-less Inv-loop μ-loop
 loop-less c = search needs
 
@@ -62,6 +65,7 @@ feed-all-spec =
     part-feed-start
     part-feed-end
     feed-requires
+    kept-requires
     loop-less
     loop-again
     returns)

@@ -3,7 +3,7 @@
 use mathlib.Core.List.{List}
 use Prim.Native.Nat.{ℕ}
 use denote.Triple.Table.{cited}
-use Rattle.stream.specs.declared.step.Replied.{Replied}
+use Rattle.numbered.specs.declared.Answered.{Answered}
 use Rattle.parser.specs.declared.CrsfParser.{CrsfParser}
 use Rattle.parser.specs.Parser.{stepped, Nexts}
 use Rattle.parser.proofs.Structs.{Parser, Says, After, steps}
@@ -16,7 +16,7 @@ use Rattle.cuts.proofs.lend.Key.{name as #lend}
 use Rattle.cuts.proofs.lend.Statement as stated
 use Rattle.cuts.proofs.lend.Code as code
 
-abbrev NextsTo : CrsfParser → List ℕ → CrsfParser → Replied → Type 0
+abbrev NextsTo : CrsfParser → List ℕ → CrsfParser → Answered → Type 0
 NextsTo p input q a = Nexts p input (stepped q a)
 
 pub lend-spec : {M : Type 1} → stated.statement M
