@@ -4,6 +4,7 @@ mod burst_edges;
 mod check_byte;
 mod edges;
 mod lists;
+mod position_edges;
 mod series_edges;
 mod show;
 
@@ -22,4 +23,6 @@ fn main() {
     burst_edges::cases();
     heading(b"Series at both sides of each edge");
     series_edges::cases();
+    heading(b"Positions and saved forms at both sides of each edge");
+    position_edges::cases();
 }
