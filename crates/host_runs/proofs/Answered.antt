@@ -2,42 +2,50 @@
 -- Assumes nothing.
 use mathlib.Core.Path.{_≡_, refl, sym, ap, ap₂, _∙_}
 use mathlib.Core.List.{List, [], _∷_, map}
-use Prim.Native.Nat.{ℕ, _<_}
+use Prim.Native.Nat.{ℕ, _+_, _≤_, _<_}
 use native.Mathlib.Omega.{arith}
-use borrow.Author.Tests.{ne-eqb}
+use mathlib.Core.Bool.{true}
+use borrow.Author.Tests.{ne-eqb, lt-ltb}
 use lib.Dec.{leb, lit<}
 use lib.ListN.{length, getD}
-use lib.Seq.{drop-drop}
+use Rattle.base.specs.Choice.{if_then_else_}
+use Rattle.base.specs.Parts.{placed}
+use Rattle.base.proofs.Parts.{placed-fits, pasted-front}
 use Rattle.base.proofs.Tests.{by-test}
 use Rattle.refusals.specs.Row.{rowOf, numberOf}
 use Rattle.refusals.specs.declared.Refusal.{Refusal}
 use Rattle.refusals.specs.declared.Refusal.the-variants.{BufferOverflow}
 use Rattle.refusals.proofs.Rows.{number-bounds}
 use Rattle.writing.specs.Writing.{Image, bytes, refused, wroteRow, writeOf}
-use Rattle.stream.specs.Step.{meaningOf}
+use Rattle.reading.specs.Reading.{limit}
+use Rattle.stream.specs.Step.{meaningOf, asksForMore}
 use Rattle.stream.specs.Rows.{rowsSaid, rowsOf}
 use Rattle.stream.specs.declared.step.Place.the-variants.{InPiece, InHeld}
 use Rattle.stream.specs.declared.step.Reply.{Reply}
 use Rattle.stream.specs.declared.step.Reply.the-variants.{More, Frame, Refused}
-use Rattle.host_state.specs.State.{placesIn}
+use Rattle.stream.proofs.Unique.{numberSaid, says-framing}
+use Rattle.host_state.specs.State.{placesIn, positionIn, isState}
+use Rattle.host_state.specs.Step.{canNumber}
+use Rattle.host_state.proofs.States.{has-size, state-size, part-of-places}
+use Rattle.host_state.proofs.Laws.{moves}
 use Rattle.host_answer.specs.Answer.{packed, answerRow, answers}
-use Rattle.host_answer.specs.Reply.{answerReply, Calls}
+use Rattle.host_answer.specs.Reply.{answerReply, saysWhere, told, Calls}
 use Rattle.host_answer.proofs.Rows.{not-success}
 use Rattle.host_answer.proofs.Packing.{Whole, unpack}
-use Rattle.host_answer.proofs.Fits.{Fits, call-fits, Short}
+use Rattle.host_answer.proofs.Fits.{Fits, call-fits, frame-inside, Short}
 use Rattle.host_answer.proofs.Numbers.{row-bytes}
 use Rattle.host_answer.proofs.Calls.{reply-whole}
-use Rattle.host_runs.specs.Answered.{numberIn, takenIn, lenIn, saidIn, saidBy}
+use Rattle.host_runs.specs.Answered.{numberIn, takenIn, lenIn, saidIn, toldIn, saidBy}
 
 -- ---- A call of the stream
 
 module _ (t : ℕ) (input state : List ℕ) where
-  said-by : (a : Reply) → Fits (answerReply t a) → saidIn (packed (answerReply t a)) input state ≡ map saidBy (rowsOf a input (placesIn state))
+  said-by : (a : Reply) → Fits (answerReply t a) → ((p n : ℕ) → a ≡ Frame (InHeld p n) → p + n ≤ limit) → saidIn (packed (answerReply t a)) input state ≡ map saidBy (rowsOf a input (placesIn state))
   unfolding answerReply saidIn saidBy meaningOf rowsSaid
-  said-by More f = rw (unpack _ (reply-whole t More f))
-  said-by (Frame (InPiece n)) f = rw (unpack _ (reply-whole t (Frame (InPiece n)) f))
-  said-by (Frame (InHeld p n)) f = rw (unpack _ (reply-whole t (Frame (InHeld p n)) f), drop-drop p 2 state)
-  said-by (Refused r) f =
+  said-by More f inside = rw (unpack _ (reply-whole t More f))
+  said-by (Frame (InPiece n)) f inside = rw (unpack _ (reply-whole t (Frame (InPiece n)) f))
+  said-by (Frame (InHeld p n)) f inside = rw (unpack _ (reply-whole t (Frame (InHeld p n)) f), part-of-places state p n (inside p n refl))
+  said-by (Refused r) f inside =
       rw (unpack _ (reply-whole t (Refused r) f), ne-eqb (numberOf r) 255 (λ e. omega (arith, number-bounds r)), not-success r)
 
   taken-by : (a : Reply) → Fits (answerReply t a) → takenIn (packed (answerReply t a)) ≡ t
@@ -58,16 +66,51 @@ module _ (t : ℕ) (input state : List ℕ) where
   asks-by (Refused r) f e =
       let z : numberOf r ≡ 255 = rw (unpack _ (reply-whole t (Refused r) f)) at e in absurd (omega (arith, number-bounds r))
 
-module _ {before input after : List ℕ} {r : ℕ} (c : Calls before input after r) where
-  pub said-is : saidIn r input after ≡ map saidBy (rowsOf (c .replied .reply) input (placesIn after))
+  -- where it says that it began
+  told-by : (a : Reply) → Fits (answerReply t a) → (slice : List ℕ) → toldIn (packed (answerReply t a)) slice ≡ (if saysWhere a then getD slice 0 0 ∷ [] else [])
+  unfolding answerReply toldIn saysWhere
+  told-by More f slice = rw (unpack _ (reply-whole t More f))
+  told-by (Frame (InPiece n)) f slice = rw (unpack _ (reply-whole t (Frame (InPiece n)) f))
+  told-by (Frame (InHeld p n)) f slice = rw (unpack _ (reply-whole t (Frame (InHeld p n)) f))
+  told-by (Refused r) f slice = rw (unpack _ (reply-whole t (Refused r) f))
+
+-- the first place of a slice that has one
+placed-first : (began place : ℕ) (rest : List ℕ) → getD (placed (place ∷ rest) 0 (began ∷ [])) 0 0 ≡ began
+placed-first began place rest =
+    ap (λ (l : List ℕ). getD l 0 0) (placed-fits (place ∷ rest) 0 (began ∷ []) (omega arith) ∙ pasted-front (place ∷ rest) (began ∷ []))
+
+-- the answers of the reading that a reply stands for are numbered where it says that it began
+where-by : (a : Reply) (piece places : List ℕ) (began place : ℕ) (rest : List ℕ) → numberSaid (meaningOf a piece places) ≤ 3
+    → (if saysWhere a then getD (told a began (place ∷ rest)) 0 0 ∷ [] else []) ≡ (if asksForMore a then [] else began ∷ [])
+unfolding told saysWhere numberSaid meaningOf
+where-by More piece places began place rest low = refl
+where-by (Frame p) piece places began place rest low = ap (λ (n : ℕ). n ∷ []) (placed-first began place rest)
+where-by (Refused r) piece places began place rest low = simp (lt-ltb (numberOf r) 4 (omega arith)) (ap (λ (n : ℕ). n ∷ []) (placed-first began place rest))
+
+module _ {before input out after outAfter : List ℕ} {r : ℕ} (c : Calls before input out after outAfter r) where
+  pub said-is : saidIn r input after ≡ map saidBy (rowsOf (c .answered .reply) input (placesIn after))
   said-is =
-      ap (λ (n : ℕ). saidIn n input after) (c .packs) ∙ said-by (c .replied .taken) input after (c .replied .reply) (call-fits (c .steps))
+      ap (λ (n : ℕ). saidIn n input after) (c .packs)
+      ∙ said-by (c .answered .taken) input after (c .answered .reply) (call-fits (c .steps)) (frame-inside (c .steps))
 
-  pub taken-is : takenIn r ≡ c .replied .taken
-  taken-is = ap takenIn (c .packs) ∙ taken-by (c .replied .taken) input after (c .replied .reply) (call-fits (c .steps))
+  pub taken-is : takenIn r ≡ c .answered .taken
+  taken-is = ap takenIn (c .packs) ∙ taken-by (c .answered .taken) input after (c .answered .reply) (call-fits (c .steps))
 
-  pub asks-is : numberIn r ≡ 255 → c .replied .reply ≡ More
-  asks-is e = asks-by (c .replied .taken) input after (c .replied .reply) (call-fits (c .steps)) (ap numberIn (sym (c .packs)) ∙ e)
+  pub asks-is : numberIn r ≡ 255 → c .answered .reply ≡ More
+  asks-is e = asks-by (c .answered .taken) input after (c .answered .reply) (call-fits (c .steps)) (ap numberIn (sym (c .packs)) ∙ e)
+
+-- what the slice is told of a call that moves: where it began, if it answers
+pub told-is : {before input : List ℕ} {place : ℕ} {rest after slice : List ℕ} {r : ℕ} (c : Calls before input (place ∷ rest) after slice r)
+    → isState before ≡ true → canNumber before input ≡ true
+    → toldIn r slice ≡ (if asksForMore (c .answered .reply) then [] else positionIn before ∷ [])
+told-is {before} {input} {place} {rest} {after} {slice} {r} c good can =
+    let a = c .answered .reply in
+    let began = c .steps .began (has-size before (state-size before good)) in
+    ap (λ (n : ℕ). toldIn n slice) (c .packs)
+    ∙ told-by (c .answered .taken) input after a (call-fits (c .steps)) slice
+    ∙ ap (λ (l : List ℕ). if saysWhere a then getD l 0 0 ∷ [] else []) (c .tells)
+    ∙ where-by a input (placesIn after) (c .answered .position) place rest (says-framing (moves (c .steps) good can))
+    ∙ ap (λ (p : ℕ). if asksForMore a then [] else p ∷ []) began
 
 -- ---- An entry that answers by a row
 

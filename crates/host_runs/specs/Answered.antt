@@ -2,7 +2,7 @@
 -- Assumes nothing.
 use Prim.Native.Nat.{ℕ, _%_}
 use mathlib.Core.List.{List, [], _∷_}
-use lib.Dec.{eqb}
+use lib.Dec.{eqb, ltb}
 use lib.ListN.{getD}
 use Rattle.base.specs.Choice.{if_then_else_}
 use Rattle.base.specs.Parts.{part}
@@ -33,6 +33,10 @@ saidIn answer input state =
     if eqb (numberIn answer) moreNumber then [] else
     if eqb (numberIn answer) 0 then (0 ∷ frameIn answer input state) ∷ [] else
     (numberIn answer ∷ byteIn answer 5 ∷ byteIn answer 6 ∷ []) ∷ []
+
+-- where it began, given the slice afterwards: the first number of it, where the answer says so
+unfoldable pub toldIn : ℕ → List ℕ → List ℕ
+toldIn answer slice = if ltb (numberIn answer) 4 then getD slice 0 0 ∷ [] else []
 
 -- the same of an answer of the reading, from its row: 0 and a frame's bytes; or a refusal's number and what it carries, each value by its low byte (what a
 -- framing refusal carries are bytes)

@@ -101,7 +101,7 @@ module _ {before input after : List ℕ} {r : Answered} (steps : StateSteps befo
 -- ---- the count of held bytes, and a reset
 
 module _ (s : List ℕ) (good : isState s ≡ true) where
-  counted : length (heldBy s) ≡ endIn s - startIn s
+  pub counted : length (heldBy s) ≡ endIn s - startIn s
   counted =
       let bounds = state-bounds s good in
       length-held (placesIn s) (startIn s) (endIn s) (bounds .0) (omega (arith, places-count s (state-size s good)))
