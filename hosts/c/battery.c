@@ -43,7 +43,7 @@ static void battery_writes(const battery *r, uint8_t dest, size_t lent)
     if (said[0] == 0) {
         crsf_state state = {0};
         int32_t back[6] = {0, 0, 0, 0, 0, 0x77777777};
-        CHECK(is(crsf_next(&state, frame, n), 0, n, 0, 0, n, 0, 0));
+        CHECK(is_at(crsf_next(&state, frame, n), 0, 0, n, 0, 0, n, 0, 0));
         CHECK(count(crsf_read_battery(frame + 3, n - 4u, back, 5), 5) && back[5] == 0x77777777);
         CHECK(back[0] == r->voltage && back[1] == r->current && (uint32_t)back[2] == r->capacity_used);
         CHECK(back[3] == r->remaining && back[4] == r->id);

@@ -43,12 +43,12 @@ static void burst_is_frames(const uint8_t *bytes, uint8_t dest, size_t sets)
         uint16_t back[SET + 1] = {0};
         back[SET] = 0x7777;
         CHECK(count(crsf_write_rc_channels_packed(singly + i * FRAME, (sets - i) * FRAME, dest, numbers + i * SET, SET), FRAME));
-        CHECK(is(crsf_next(&state, bytes + i * FRAME, (sets - i) * FRAME), 0, FRAME, 0, 0, FRAME, 0, 0));
+        CHECK(is_at(crsf_next(&state, bytes + i * FRAME, (sets - i) * FRAME), i * FRAME, 0, FRAME, 0, 0, FRAME, 0, 0));
         CHECK(count(crsf_read_rc_channels_packed(bytes + i * FRAME + 3, FRAME - 4, back, SET + 1), SET) && back[SET] == 0x7777);
         CHECK(memcmp(back, numbers + i * SET, SET * sizeof *back) == 0);
     }
     CHECK(memcmp(bytes, singly, sets * FRAME) == 0);
-    CHECK(is(crsf_next(&state, bytes, 0), CRSF_MORE, 0, 0, 0, 0, 0, 0) && count(crsf_held_count(&state), 0));
+    CHECK(asks_more(crsf_next(&state, bytes, 0), 0) && count(crsf_held_count(&state), 0));
 }
 
 /* Writes a burst of the first numbers, of which so many are given, and compares with what the rules say, in their own numbers: the eight bytes of the

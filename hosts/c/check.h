@@ -1,5 +1,5 @@
-/* What the tests in C share: a check that stops at the first difference, an answer by its eight bytes, the addresses, the check byte bit by bit,
- * and numbers that are no better than noise. */
+/* What the tests in C share: a check that stops at the first difference, an answer by its eight bytes and one with a position, the addresses, the check
+ * byte bit by bit, and numbers that are no better than noise. */
 #ifndef CHECK_H
 #define CHECK_H
 
@@ -35,6 +35,25 @@ static inline int refusal(crsf_answer a, uint8_t number)
 static inline int count(crsf_answer a, uint8_t len)
 {
     return is(a, CRSF_OK, 0, 0, 0, len, 0, 0);
+}
+
+/* An answer with a position. */
+static inline int is_at(crsf_call a, uint64_t position, uint8_t number, uint8_t taken, uint8_t in_state, uint8_t at, uint8_t len, uint8_t first,
+                        uint8_t second)
+{
+    const crsf_answer answer = {a.number, a.taken, a.in_state, a.at, a.len, a.first, a.second, a.zero};
+    return a.position == position && is(answer, number, taken, in_state, at, len, first, second);
+}
+
+/* More is asked for, and so many bytes were taken; or the call is refused, and none were. Neither speaks of a position. */
+static inline int asks_more(crsf_call a, uint8_t taken)
+{
+    return is_at(a, 0, CRSF_MORE, taken, 0, 0, 0, 0, 0);
+}
+
+static inline int call_refused(crsf_call a, uint8_t number)
+{
+    return is_at(a, 0, number, 0, 0, 0, 0, 0, 0);
 }
 
 /* Whether a byte is an address (RULES 3.1): nothing of the archive is asked, here and for the check byte. */

@@ -5,17 +5,17 @@
  * where `rt staticlib host` wrote it. It is for x86-64 Linux, allocates nothing, keeps nothing between calls, and needs nothing from outside, not
  * even memcpy.
  *
- *     // Hands every frame of a piece to on_frame. Answers 0, or 8 where the state is not valid.
+ *     // Hands every frame of a piece to on_frame, with where it begins in the stream. Answers 0; or 8 or 12, with nothing of the piece taken.
  *     int take(crsf_state *state, const uint8_t *piece, size_t len)
  *     {
  *         for (;;) {
- *             crsf_answer a = crsf_next(state, piece, len);
+ *             crsf_call a = crsf_next(state, piece, len);
  *             if (a.number == CRSF_MORE)
  *                 return 0;                            // the whole piece is taken: go on with the next one
- *             if (a.number == CRSF_BAD_STATE)
+ *             if (a.number == CRSF_BAD_STATE || a.number == CRSF_POSITION_RANGE)
  *                 return a.number;                     // nothing was taken, and asking again changes nothing
  *             if (a.number == CRSF_FRAME)              // a.len bytes, valid until the next call
- *                 on_frame(crsf_frame_bytes(state, piece, a), a.len);
+ *                 on_frame(a.position, crsf_frame_bytes(state, piece, a), a.len);
  *             piece += a.taken;                        // after a refusal, 1 to 3, one byte was dropped: go on behind it
  *             len -= a.taken;
  *         }
@@ -29,23 +29,23 @@
  * `hosts/test --stack` measures again, and fails where a call needs more than this.
  *     crsf_next_raw_packet              104        crsf_reset                         24
  *     crsf_save                          88        crsf_restore                       24
- *     crsf_held                          24        crsf_is_address                    24
- *     crsf_header_of                     24        crsf_checksum                      56
- *     crsf_pack_altitude                 24        crsf_baro_decimetres               24
- *     crsf_gps_metres                    24        crsf_channel_microseconds          24
- *     crsf_raw_view                      24        crsf_write_link_statistics        136
- *     crsf_write_rc_channels_packed     152        crsf_write_rc_channels_burst      152
- *     crsf_write_gps                    120        crsf_write_gps_extended           168
- *     crsf_write_battery                 72        crsf_write_baro_altitude           40
- *     crsf_write_rpm                     72        crsf_write_temp                    72
- *     crsf_write_voltages                72        crsf_read_link_statistics          24
- *     crsf_read_rc_channels_packed       56        crsf_read_gps                      24
- *     crsf_read_gps_extended             24        crsf_read_battery                  24
- *     crsf_read_baro_altitude            24        crsf_read_rpm                      24
- *     crsf_read_temp                     64        crsf_read_voltages                 88
- *     crsf_log_next                     296        crsf_log_end                      168
- *     crsf_log_reset                     24        crsf_log_start                     24
- *     crsf_log_entry                    232
+ *     crsf_held                          24        crsf_position                      24
+ *     crsf_is_address                    24        crsf_header_of                     24
+ *     crsf_checksum                      56        crsf_pack_altitude                 24
+ *     crsf_baro_decimetres               24        crsf_gps_metres                    24
+ *     crsf_channel_microseconds          24        crsf_raw_view                      24
+ *     crsf_write_link_statistics        136        crsf_write_rc_channels_packed     152
+ *     crsf_write_rc_channels_burst      152        crsf_write_gps                    120
+ *     crsf_write_gps_extended           168        crsf_write_battery                 72
+ *     crsf_write_baro_altitude           40        crsf_write_rpm                     72
+ *     crsf_write_temp                    72        crsf_write_voltages                72
+ *     crsf_read_link_statistics          24        crsf_read_rc_channels_packed       56
+ *     crsf_read_gps                      24        crsf_read_gps_extended             24
+ *     crsf_read_battery                  24        crsf_read_baro_altitude            24
+ *     crsf_read_rpm                      24        crsf_read_temp                     64
+ *     crsf_read_voltages                 88        crsf_log_next                     296
+ *     crsf_log_end                      168        crsf_log_reset                     24
+ *     crsf_log_start                     24        crsf_log_entry                    232
  */
 #ifndef CRSF_H
 #define CRSF_H
@@ -57,9 +57,9 @@
 
 /* The version of this header and of the archive, and nowhere else decided: CHANGELOG.md says what changed. */
 #define CRSF_VERSION_MAJOR 0
-#define CRSF_VERSION_MINOR 6
+#define CRSF_VERSION_MINOR 7
 #define CRSF_VERSION_PATCH 0
-#define CRSF_VERSION "0.6.0"
+#define CRSF_VERSION "0.7.0"
 
 #ifdef __cplusplus
 extern "C" {
@@ -69,7 +69,7 @@ extern "C" {
 
 /* A field that an answer does not speak of is 0: after CRSF_MORE and after a refusal, len is 0. The struct comes back by value, in one register. */
 typedef struct crsf_answer {
-    uint8_t number;   /* CRSF_OK or CRSF_FRAME, 0; CRSF_MORE; or a refusal, 1 to 11 */
+    uint8_t number;   /* CRSF_OK or CRSF_FRAME, 0; CRSF_MORE; or a refusal, 1 to 12 */
     uint8_t taken;    /* how many bytes of the input were taken: by crsf_next_raw_packet at most 64, by crsf_log_next at most 71 */
     uint8_t in_state; /* of a frame: 1 where its bytes stand in the state, 0 where they stand in the input */
     uint8_t at;       /* of a frame: where it begins, in the bytes of the state or in the input */
@@ -92,46 +92,60 @@ enum {
     CRSF_CHANNEL_RANGE = 6,          /* first: the index of the first channel above 2047, 0 of a single one; of a burst, first: the set that has
                                       * it, second: its index in that set. Nothing was written */
     CRSF_BAD_ADDRESS = 7,            /* a destination that is not an address. Nothing was written */
-    CRSF_BAD_STATE = 8,              /* not a valid state, or a malformed saved form; 64 held bytes at a save. Nothing was taken or changed */
+    CRSF_BAD_STATE = 8,              /* not a valid state, or a malformed saved form; at a save 64 held bytes, or held bytes that end above
+                                      * position 2^64 - 1. Nothing was taken or changed */
     CRSF_INVALID_LOG = 9,            /* of a log: a malformed number, a first number other than 1, an end inside an entry or before the 1, a byte
                                       * behind the end */
     CRSF_INVALID_FRAME = 10,         /* of a log: a length that is not 4 to 64, or bytes that are not one whole valid frame */
     CRSF_CAPACITY_RANGE = 11,        /* a battery's capacity of 2^24 or more, for which its 24 bits have no room. Nothing was written */
+    CRSF_POSITION_RANGE = 12,        /* of the stream: the held bytes and the input would end above position 2^64 - 1. Nothing was taken or changed */
     CRSF_MORE = 255                  /* no answer yet: all of the input is taken, and more is asked for */
 };
 
 /* ---- The stream ---------------------------------------------------------------------------------------------------------------------------- */
 
-/* The bytes held between calls: places[start] up to places[end - 1]. All zero is a state that holds nothing. It is valid where start <= end <= 64. */
+/* The bytes held between calls, places[start] up to places[end - 1]; and where the parser is in its stream: the position of the first held byte, or,
+ * where nothing is held, of the next byte. The first byte of a stream has position 0. All zero is a state that holds nothing, at position 0. It is
+ * valid where start <= end <= 64. */
 typedef struct crsf_state {
     uint8_t start;
     uint8_t end;
     uint8_t places[64];
+    uint8_t position[8]; /* highest byte first: crsf_position_of has the number */
 } crsf_state;
 
 enum {
-    CRSF_STATE_SIZE = 66, /* sizeof(crsf_state) */
+    CRSF_STATE_SIZE = 74, /* sizeof(crsf_state) */
     CRSF_FRAME_MAX = 64,  /* the longest frame */
-    CRSF_SAVED_MAX = 64   /* the longest saved form: a count and 63 held bytes */
+    CRSF_SAVED_MAX = 75   /* the longest saved form: its mark, ten bytes of position, a count and 63 held bytes */
 };
 
-/* The functions of the archive. A slice is a pointer and then its length; a state of another length than 66 is refused with 8. */
+/* The functions of the archive. A slice is a pointer and then its length; a state of another length than 74 is refused with 8. */
 
 /* The first answer of the held bytes followed by the input. With CRSF_MORE all of the input is taken; with any other answer the bytes from
- * input + taken on are unread, and the next call goes on there (with no input at all if none is left). */
-crsf_answer crsf_next_raw_packet(uint8_t *state, size_t state_len, const uint8_t *input, size_t input_len);
+ * input + taken on are unread, and the next call goes on there (with no input at all if none is left).
+ *   position   its first place gets the position where the answer began, of a frame and of refusals 1 to 3: that of its first byte, which is where
+ *              the parser was before the call. Nothing else is written there, and nothing at all with CRSF_MORE, 8 and 12. position_len may be 0
+ * Refusal 8 is tested first, then 12: the parser's position, the held bytes and input_len together are above 2^64 - 1. So no position is ever above
+ * that, and a shorter piece may still do. */
+crsf_answer crsf_next_raw_packet(uint8_t *state, size_t state_len, const uint8_t *input, size_t input_len, uint64_t *position,
+                                 size_t position_len);
 
-/* Forgets the held bytes. Unread input then begins a new stream. */
+/* Forgets the held bytes. Unread input then begins a new stream, at position 0. */
 crsf_answer crsf_reset(uint8_t *state, size_t state_len);
 
-/* Writes the saved form of the held bytes to the front of out; len is its length. */
+/* Writes the saved form of the parser's position and of the held bytes to the front of out; len is its length. */
 crsf_answer crsf_save(const uint8_t *state, size_t state_len, uint8_t *out, size_t out_len);
 
-/* Makes the state hold what a saved form says, whatever it held before; len is how many bytes that is. */
+/* Makes the state hold what a saved form says, whatever it held before, and go on from its position; len is how many bytes are held. A form that was
+ * saved before version 0.7.0 says no position: it goes on from 0. */
 crsf_answer crsf_restore(uint8_t *state, size_t state_len, const uint8_t *form, size_t form_len);
 
 /* len is how many bytes are held. */
 crsf_answer crsf_held(const uint8_t *state, size_t state_len);
+
+/* Where the parser is: its position goes to position[0], and len is 1. Refusal 8, then 5 where position_len is 0, with position unchanged. */
+crsf_answer crsf_position(const uint8_t *state, size_t state_len, uint64_t *position, size_t position_len);
 
 /* ---- Queries ------------------------------------------------------------------------------------------------------------------------------- */
 
@@ -356,9 +370,30 @@ crsf_answer crsf_log_entry(uint32_t seconds, const uint8_t *frame, size_t frame_
 
 /* ---- Conveniences -------------------------------------------------------------------------------------------------------------------------- */
 
-static inline crsf_answer crsf_next(crsf_state *state, const uint8_t *input, size_t input_len)
+/* An answer with a position: the fields of crsf_answer, and one more. */
+typedef struct crsf_call {
+    uint8_t number;
+    uint8_t taken;
+    uint8_t in_state;
+    uint8_t at;
+    uint8_t len;
+    uint8_t first;
+    uint8_t second;
+    uint8_t zero;
+    uint64_t position; /* of a frame and of refusals 1 to 3: where it began in the stream; else 0 */
+} crsf_call;
+
+static inline crsf_call crsf_call_of(crsf_answer answer, uint64_t position)
 {
-    return crsf_next_raw_packet((uint8_t *)state, sizeof *state, input, input_len);
+    const crsf_call call = {answer.number, answer.taken, answer.in_state, answer.at, answer.len, answer.first, answer.second, answer.zero, position};
+    return call;
+}
+
+static inline crsf_call crsf_next(crsf_state *state, const uint8_t *input, size_t input_len)
+{
+    uint64_t position = 0;
+    const crsf_answer answer = crsf_next_raw_packet((uint8_t *)state, sizeof *state, input, input_len, &position, 1);
+    return crsf_call_of(answer, position);
 }
 
 static inline crsf_answer crsf_forget(crsf_state *state)
@@ -381,10 +416,18 @@ static inline crsf_answer crsf_held_count(const crsf_state *state)
     return crsf_held((const uint8_t *)state, sizeof *state);
 }
 
-/* The bytes of a frame, of which there are answer.len: valid until the state or the input changes. Only where answer.number is CRSF_FRAME. */
-static inline const uint8_t *crsf_frame_bytes(const crsf_state *state, const uint8_t *input, crsf_answer answer)
+/* Where the parser is. The position is 0 with refusal 8. */
+static inline crsf_call crsf_position_of(const crsf_state *state)
 {
-    return answer.in_state ? (const uint8_t *)state + answer.at : input + answer.at;
+    uint64_t position = 0;
+    const crsf_answer answer = crsf_position((const uint8_t *)state, sizeof *state, &position, 1);
+    return crsf_call_of(answer, position);
+}
+
+/* The bytes of a frame, of which there are call.len: valid until the state or the input changes. Only where call.number is CRSF_FRAME. */
+static inline const uint8_t *crsf_frame_bytes(const crsf_state *state, const uint8_t *input, crsf_call call)
+{
+    return call.in_state ? (const uint8_t *)state + call.at : input + call.at;
 }
 
 static inline crsf_answer crsf_log_read(crsf_log_state *state, const uint8_t *input, size_t input_len, uint32_t *seconds)
@@ -402,7 +445,7 @@ static inline crsf_answer crsf_log_forget(crsf_log_state *state)
     return crsf_log_reset((uint8_t *)state, sizeof *state);
 }
 
-/* The bytes of an entry's frame, as crsf_frame_bytes has them. */
+/* The bytes of an entry's frame, as crsf_frame_bytes has those of the stream. */
 static inline const uint8_t *crsf_log_frame_bytes(const crsf_log_state *state, const uint8_t *input, crsf_answer answer)
 {
     return answer.in_state ? (const uint8_t *)state + answer.at : input + answer.at;
@@ -422,7 +465,7 @@ static inline crsf_answer crsf_channel_us(uint16_t raw, float *us)
 static inline uint8_t crsf_frame_address(const uint8_t *frame) { return frame[0]; }
 static inline uint8_t crsf_frame_type(const uint8_t *frame) { return frame[2]; }
 static inline const uint8_t *crsf_frame_payload(const uint8_t *frame) { return frame + 3; }
-static inline size_t crsf_frame_payload_len(crsf_answer answer) { return (size_t)answer.len - 4; }
+static inline size_t crsf_frame_payload_len(size_t len) { return len - 4; }
 
 #ifdef __cplusplus
 }

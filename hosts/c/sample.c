@@ -5,11 +5,13 @@
 #include <string.h>
 
 static unsigned frames, frame_bytes;
+static uint64_t positions;
 
-static void on_frame(const uint8_t *frame, size_t len)
+static void on_frame(uint64_t position, const uint8_t *frame, size_t len)
 {
     frames += frame[0] == 0xC8;
     frame_bytes += (unsigned)len;
+    positions += position;
 }
 
 #include "sample.inc"
@@ -21,25 +23,31 @@ int main(void)
     for (size_t piece = 1; piece <= sizeof input; piece++) {
         crsf_state state = {0};
         frames = frame_bytes = 0;
+        positions = 0;
         for (size_t from = 0; from < sizeof input; from += piece)
             if (take(&state, input + from, sizeof input - from < piece ? sizeof input - from : piece) != 0)
                 return 1;
-        if (frames != 2 || frame_bytes != 8 || crsf_held_count(&state).len != 3)
+        if (frames != 2 || frame_bytes != 8 || positions != 0 + 5 || crsf_held_count(&state).len != 3 || crsf_position_of(&state).position != 15)
             return 1;
     }
-    /* every state: it ends, with 8 where the state is not valid, and then nothing has changed */
+    /* every state, at 0 and where the held bytes and the input may end behind the last position: it ends, with 8 where the state is not valid, then
+     * with 12 where they do, and then nothing has changed */
     for (unsigned start = 0; start < 256; start++)
-        for (unsigned end = 0; end < 256; end++) {
-            crsf_state state = {0}, before;
-            state.start = (uint8_t)start;
-            state.end = (uint8_t)end;
-            before = state;
-            const int valid = start <= end && end <= 64;
-            if (take(&state, input, sizeof input) != (valid ? 0 : CRSF_BAD_STATE))
-                return 1;
-            if (!valid && memcmp(&state, &before, sizeof state) != 0)
-                return 1;
-        }
+        for (unsigned end = 0; end < 256; end++)
+            for (unsigned last = 0; last < 4; last++) {
+                crsf_state state = {0}, before;
+                state.start = (uint8_t)start;
+                state.end = (uint8_t)end;
+                memset(state.position, last ? 0xFF : 0, sizeof state.position);
+                state.position[7] -= (uint8_t)(last * 20);
+                before = state;
+                const int valid = start <= end && end <= 64;
+                const int said = !valid ? CRSF_BAD_STATE : last && last * 20 < end - start + sizeof input ? CRSF_POSITION_RANGE : 0;
+                if (take(&state, input, sizeof input) != said)
+                    return 1;
+                if (said != 0 && memcmp(&state, &before, sizeof state) != 0)
+                    return 1;
+            }
     puts("the sample ends on every answer");
     return 0;
 }

@@ -51,7 +51,8 @@ static size_t depth(void (*f)(void), void (*before)(void))
 static crsf_state state, first_state;
 static crsf_log_state log_state, first_log_state;
 static uint8_t bytes[256], buffer[80], form[CRSF_SAVED_MAX], frame[CRSF_FRAME_MAX], log_bytes[80];
-static size_t count, room, frame_len, log_len;
+static size_t count, room, places, form_len, frame_len, log_len;
+static uint64_t position[1];
 static uint8_t dest;
 static uint16_t channels[16], sets[CRSF_BURST_SETS_MAX * 16];
 static uint8_t burst[CRSF_BURST_MAX];
@@ -73,11 +74,12 @@ static void same(void)
 #define STATE (uint8_t *)&state, sizeof state
 #define LOG_STATE (uint8_t *)&log_state, sizeof log_state
 
-CALL(next_raw_packet, STATE, bytes, count)
+CALL(next_raw_packet, STATE, bytes, count, position, places)
 CALL(reset, STATE)
-CALL(save, STATE, form, room)
-CALL(restore, STATE, form, room)
+CALL(save, STATE, buffer, room)
+CALL(restore, STATE, form, form_len)
 CALL(held, STATE)
+CALL(position, STATE, position, places)
 ASK(is_address, bytes[0])
 ASK(header_of, bytes[0])
 ASK(checksum, bytes, count)
@@ -117,7 +119,7 @@ static struct {
     void (*call)(void);
     size_t most;
 } entries[] = {
-    ENTRY(next_raw_packet), ENTRY(reset), ENTRY(save), ENTRY(restore), ENTRY(held),
+    ENTRY(next_raw_packet), ENTRY(reset), ENTRY(save), ENTRY(restore), ENTRY(held), ENTRY(position),
     ENTRY(is_address), ENTRY(header_of), ENTRY(checksum), ENTRY(pack_altitude), ENTRY(baro_decimetres), ENTRY(gps_metres),
     ENTRY(channel_microseconds), ENTRY(raw_view),
     ENTRY(write_link_statistics), ENTRY(write_rc_channels_packed), ENTRY(write_rc_channels_burst), ENTRY(write_gps), ENTRY(write_gps_extended),
@@ -169,7 +171,8 @@ int main(void)
     /* Every count of payload bytes, held bytes and room: of frames, of noise, and of what is refused. */
     for (unsigned turn = 0; turn < 4000; turn++) {
         count = noise() % 130;
-        room = turn % 3 ? 70 : noise() % 70;
+        room = turn % 3 ? 79 : noise() % 80;
+        places = noise() % 2;
         dest = turn % 5 ? 0xC8 : (uint8_t)noise();
         for (size_t i = 0; i < sizeof bytes; i++)
             bytes[i] = turn % 2 ? (uint8_t)noise() : (uint8_t)(i % 7 ? i : 0xC8);
@@ -188,7 +191,8 @@ int main(void)
         first_state.end = (uint8_t)(first_state.start + noise() % (65u - first_state.start));
         for (size_t i = 0; i < 64; i++)
             first_state.places[i] = bytes[255 - i];
-        form[0] = (uint8_t)(room && room <= 64 ? room - 1 : noise());
+        for (size_t i = 0; i < 8; i++)
+            first_state.position[i] = (uint8_t)(turn % 4 == 0 ? 0 : turn % 4 == 1 && i < 7 ? 0xFF : noise());
         if (turn % 2) {
             /* A whole frame at the front, of which some bytes are held already. */
             crsf_answer w = crsf_write_rpm(bytes, sizeof bytes, 0xC8, 1, numbers, 1 + turn % 19);
@@ -199,6 +203,14 @@ int main(void)
             memmove(bytes, bytes + cut, sizeof bytes - cut);
             count = turn % 11 ? w.len - cut : count;
         }
+        /* Its form, as it is, without its position, and with a byte changed. */
+        form_len = crsf_save_state(&first_state, form, sizeof form).len;
+        if (turn % 5 == 0 && form_len > 0) {
+            form_len = first_state.end - first_state.start + 1u;
+            form[0] = (uint8_t)(form_len - 1);
+        }
+        if (turn % 5 == 1)
+            form[noise() % sizeof form] = (uint8_t)noise();
         make_log(turn);
         measure();
     }

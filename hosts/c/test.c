@@ -1,7 +1,8 @@
 /* Every entry of the archive, called from C on known bytes. Prints what it ran, and stops at the first difference. */
 #include "check.h"
 
-/* What a stream says, in the lines of the listing, whatever the pieces. The state is saved after save_at calls, spoilt and restored. */
+/* What a stream says, in the lines of the listing with their positions, whatever the pieces. The state is saved after save_at calls, spoilt and
+ * restored. */
 static void list(const uint8_t *bytes, size_t n, size_t piece, unsigned save_at, char *out)
 {
     crsf_state state = {0};
@@ -13,16 +14,18 @@ static void list(const uint8_t *bytes, size_t n, size_t piece, unsigned save_at,
         for (;;) {
             if (calls++ == save_at) {
                 uint8_t form[CRSF_SAVED_MAX];
-                crsf_answer saved = crsf_save_state(&state, form, sizeof form);
-                CHECK(saved.number == CRSF_OK);
+                crsf_answer held = crsf_held_count(&state), saved = crsf_save_state(&state, form, sizeof form);
+                CHECK(held.number == CRSF_OK && saved.number == CRSF_OK);
                 memset(&state, 0xEE, sizeof state);
-                CHECK(count(crsf_restore_state(&state, form, saved.len), (uint8_t)(saved.len - 1)));
+                CHECK(count(crsf_restore_state(&state, form, saved.len), held.len));
             }
-            crsf_answer a = crsf_next(&state, rest, left);
+            crsf_call a = crsf_next(&state, rest, left);
             CHECK(a.taken <= left);
             const uint8_t *frame = crsf_frame_bytes(&state, rest, a);
+            if (a.number != CRSF_MORE)
+                end += sprintf(end, "%u ", (unsigned)a.position);
             if (a.number == CRSF_FRAME)
-                end += sprintf(end, "frame %02X %02X %zu\n", crsf_frame_address(frame), crsf_frame_type(frame), crsf_frame_payload_len(a));
+                end += sprintf(end, "frame %02X %02X %zu\n", crsf_frame_address(frame), crsf_frame_type(frame), crsf_frame_payload_len(a.len));
             else if (a.number == CRSF_INVALID_SYNC)
                 end += sprintf(end, "sync %02X\n", a.first);
             else if (a.number == CRSF_INVALID_PACKET_LENGTH)
@@ -30,7 +33,7 @@ static void list(const uint8_t *bytes, size_t n, size_t piece, unsigned save_at,
             else if (a.number == CRSF_INVALID_CRC)
                 end += sprintf(end, "crc %02X %02X\n", a.first, a.second);
             else
-                CHECK(a.number == CRSF_MORE && a.taken == left);
+                CHECK(a.number == CRSF_MORE && a.taken == left && a.position == 0);
             rest += a.taken;
             left -= a.taken;
             if (a.number == CRSF_MORE)
@@ -39,7 +42,7 @@ static void list(const uint8_t *bytes, size_t n, size_t piece, unsigned save_at,
     }
     crsf_answer held = crsf_held_count(&state);
     CHECK(held.number == CRSF_OK);
-    sprintf(end, "held %u\n", held.len);
+    sprintf(end, "%u held %u\n", (unsigned)crsf_position_of(&state).position, held.len);
 }
 
 /* The same lines in pieces of any size, and with a save and a restore before any call. */
@@ -55,14 +58,14 @@ static void lists(const uint8_t *bytes, size_t n, const char *lines)
 
 static void stream(void)
 {
-    lists((const uint8_t[]){0xC8, 2, 0, 0}, 4, "frame C8 00 0\nheld 0\n");
-    lists((const uint8_t[]){0xC8, 2, 0, 0, 0x55, 0xC8, 2, 0}, 8, "frame C8 00 0\nsync 55\nheld 3\n");
-    lists((const uint8_t[]){0xC8, 2, 0, 1}, 4, "crc 00 01\nsync 02\nlength 01\nsync 01\nheld 0\n");
-    lists((const uint8_t[]){0xC8, 1}, 2, "length 01\nsync 01\nheld 0\n");
-    lists((const uint8_t[]){0, 0}, 2, "length 00\nheld 1\n");
-    lists((const uint8_t[]){0xC8, 0x3F}, 2, "length 3F\nsync 3F\nheld 0\n");
-    lists((const uint8_t[]){0xC8, 0x3E}, 2, "held 2\n");
-    lists((const uint8_t[]){0xC8}, 1, "held 1\n");
+    lists((const uint8_t[]){0xC8, 2, 0, 0}, 4, "0 frame C8 00 0\n4 held 0\n");
+    lists((const uint8_t[]){0xC8, 2, 0, 0, 0x55, 0xC8, 2, 0}, 8, "0 frame C8 00 0\n4 sync 55\n5 held 3\n");
+    lists((const uint8_t[]){0xC8, 2, 0, 1}, 4, "0 crc 00 01\n1 sync 02\n2 length 01\n3 sync 01\n4 held 0\n");
+    lists((const uint8_t[]){0xC8, 1}, 2, "0 length 01\n1 sync 01\n2 held 0\n");
+    lists((const uint8_t[]){0, 0}, 2, "0 length 00\n1 held 1\n");
+    lists((const uint8_t[]){0xC8, 0x3F}, 2, "0 length 3F\n1 sync 3F\n2 held 0\n");
+    lists((const uint8_t[]){0xC8, 0x3E}, 2, "0 held 2\n");
+    lists((const uint8_t[]){0xC8}, 1, "0 held 1\n");
 }
 
 static void calls(void)
@@ -70,21 +73,24 @@ static void calls(void)
     crsf_state state = {0};
     const uint8_t frame[4] = {0xC8, 2, 0, 0};
     const uint8_t wrong[4] = {0xC8, 2, 0, 1};
-    CHECK(sizeof state == CRSF_STATE_SIZE && sizeof(crsf_answer) == 8);
+    CHECK(sizeof state == CRSF_STATE_SIZE && sizeof(crsf_answer) == 8 && sizeof(crsf_call) == 16);
     /* in the input; then in the state */
-    CHECK(is(crsf_next(&state, frame, 4), CRSF_FRAME, 4, 0, 0, 4, 0, 0));
-    CHECK(is(crsf_next(&state, frame, 3), CRSF_MORE, 3, 0, 0, 0, 0, 0));
-    crsf_answer a = crsf_next(&state, frame + 3, 1);
-    CHECK(a.number == CRSF_FRAME && a.taken == 1 && a.in_state == 1 && a.len == 4);
+    CHECK(is_at(crsf_next(&state, frame, 4), 0, CRSF_FRAME, 4, 0, 0, 4, 0, 0));
+    CHECK(asks_more(crsf_next(&state, frame, 3), 3));
+    crsf_call a = crsf_next(&state, frame + 3, 1);
+    CHECK(a.number == CRSF_FRAME && a.taken == 1 && a.in_state == 1 && a.len == 4 && a.position == 4);
     CHECK(memcmp(crsf_frame_bytes(&state, frame + 3, a), frame, 4) == 0);
-    CHECK(is(crsf_next(&state, wrong, 4), CRSF_INVALID_CRC, 1, 0, 0, 0, 0, 1));
-    CHECK(is(crsf_next(&state, NULL, 0), CRSF_MORE, 0, 0, 0, 0, 0, 0));
-    /* a state of a wrong length, and one that is not valid, stay as they are */
-    uint8_t bytes[67];
+    CHECK(is_at(crsf_next(&state, wrong, 4), 8, CRSF_INVALID_CRC, 1, 0, 0, 0, 0, 1));
+    CHECK(asks_more(crsf_next(&state, NULL, 0), 0));
+    CHECK(is_at(crsf_position_of(&state), 9, CRSF_OK, 0, 0, 0, 1, 0, 0));
+    /* a state of a wrong length, and one that is not valid, stay as they are; so does a place for a position */
+    uint8_t bytes[80];
+    uint64_t position = 77;
     for (size_t n = 0; n < sizeof bytes; n++)
         if (n != CRSF_STATE_SIZE) {
             memset(bytes, 0x5A, sizeof bytes);
-            CHECK(refusal(crsf_next_raw_packet(bytes, n, frame, 4), CRSF_BAD_STATE));
+            CHECK(refusal(crsf_next_raw_packet(bytes, n, frame, 4, &position, 1), CRSF_BAD_STATE));
+            CHECK(refusal(crsf_position(bytes, n, &position, 1), CRSF_BAD_STATE) && position == 77);
             CHECK(refusal(crsf_reset(bytes, n), CRSF_BAD_STATE));
             CHECK(refusal(crsf_restore(bytes, n, (const uint8_t[]){0}, 1), CRSF_BAD_STATE));
             CHECK(refusal(crsf_save(bytes, n, bytes, 0), CRSF_BAD_STATE));
@@ -98,14 +104,15 @@ static void calls(void)
                 memset(bytes, 0x5A, sizeof bytes);
                 bytes[0] = (uint8_t)start;
                 bytes[1] = (uint8_t)end;
-                uint8_t before[67], out[64];
+                uint8_t before[80], out[CRSF_SAVED_MAX];
                 memcpy(before, bytes, sizeof bytes);
-                CHECK(refusal(crsf_next_raw_packet(bytes, 66, frame, 4), CRSF_BAD_STATE));
-                CHECK(refusal(crsf_save(bytes, 66, out, sizeof out), CRSF_BAD_STATE));
-                CHECK(refusal(crsf_held(bytes, 66), CRSF_BAD_STATE));
-                CHECK(memcmp(before, bytes, sizeof bytes) == 0);
-                CHECK(count(crsf_reset(bytes, 66), 0));
-                CHECK(count(crsf_held(bytes, 66), 0));
+                CHECK(refusal(crsf_next_raw_packet(bytes, 74, frame, 4, &position, 1), CRSF_BAD_STATE));
+                CHECK(refusal(crsf_save(bytes, 74, out, sizeof out), CRSF_BAD_STATE));
+                CHECK(refusal(crsf_held(bytes, 74), CRSF_BAD_STATE));
+                CHECK(refusal(crsf_position(bytes, 74, &position, 1), CRSF_BAD_STATE));
+                CHECK(memcmp(before, bytes, sizeof bytes) == 0 && position == 77);
+                CHECK(count(crsf_reset(bytes, 74), 0));
+                CHECK(count(crsf_held(bytes, 74), 0));
             }
 }
 
@@ -115,15 +122,19 @@ static void empty_fields(void)
     crsf_state state = {0};
     uint8_t buffer[70];
     int32_t out[20];
-    CHECK(is(crsf_next(&state, (const uint8_t[]){0xC8, 2}, 2), CRSF_MORE, 2, 0, 0, 0, 0, 0));
-    CHECK(is(crsf_next(&state, NULL, 0), CRSF_MORE, 0, 0, 0, 0, 0, 0));
-    CHECK(is(crsf_next(&state, (const uint8_t[]){0, 7}, 2), CRSF_INVALID_CRC, 2, 0, 0, 0, 0, 7));
+    CHECK(asks_more(crsf_next(&state, (const uint8_t[]){0xC8, 2}, 2), 2));
+    CHECK(asks_more(crsf_next(&state, NULL, 0), 0));
+    CHECK(is_at(crsf_next(&state, (const uint8_t[]){0, 7}, 2), 0, CRSF_INVALID_CRC, 2, 0, 0, 0, 0, 7));
     crsf_forget(&state);
-    CHECK(is(crsf_next(&state, (const uint8_t[]){0x55}, 1), CRSF_INVALID_SYNC, 1, 0, 0, 0, 0x55, 0));
-    CHECK(is(crsf_next(&state, (const uint8_t[]){0xC8, 1}, 2), CRSF_INVALID_PACKET_LENGTH, 1, 0, 0, 0, 1, 0));
+    CHECK(is_at(crsf_next(&state, (const uint8_t[]){0x55}, 1), 0, CRSF_INVALID_SYNC, 1, 0, 0, 0, 0x55, 0));
+    CHECK(is_at(crsf_next(&state, (const uint8_t[]){0xC8, 1}, 2), 1, CRSF_INVALID_PACKET_LENGTH, 1, 0, 0, 0, 1, 0));
+    CHECK(asks_more(crsf_next(&state, (const uint8_t[]){0xC8}, 1), 1));
+    memset(state.position, 0xFF, sizeof state.position);
+    CHECK(call_refused(crsf_next(&state, buffer, 0), CRSF_POSITION_RANGE));
     state.start = 200;
     state.end = 3;
-    CHECK(refusal(crsf_next(&state, buffer, 0), CRSF_BAD_STATE));
+    CHECK(call_refused(crsf_next(&state, buffer, 0), CRSF_BAD_STATE));
+    CHECK(call_refused(crsf_position_of(&state), CRSF_BAD_STATE));
     CHECK(refusal(crsf_read_gps(buffer, 14, out, 20), CRSF_INVALID_PAYLOAD_LENGTH));
     CHECK(refusal(crsf_write_baro_altitude(buffer, 6, 0xC8, 1, 2), CRSF_BUFFER_OVERFLOW));
     CHECK(refusal(crsf_write_baro_altitude(buffer, 70, 0x55, 1, 2), CRSF_BAD_ADDRESS));
@@ -141,25 +152,28 @@ static void saves(void)
     crsf_state state = {0};
     uint8_t form[CRSF_SAVED_MAX];
     const uint8_t waiting[3] = {0xC8, 0x3E, 7};
-    CHECK(count(crsf_save_state(&state, form, 1), 1) && form[0] == 0);
+    CHECK(count(crsf_save_state(&state, form, 3), 3) && memcmp(form, (const uint8_t[]){0x40, 0, 0}, 3) == 0);
+    state.position[6] = 1;
     CHECK(crsf_next(&state, waiting, 3).number == CRSF_MORE);
     memset(form, 0xAA, sizeof form);
-    CHECK(refusal(crsf_save_state(&state, form, 3), CRSF_BUFFER_OVERFLOW) && form[0] == 0xAA);
-    CHECK(count(crsf_save_state(&state, form, sizeof form), 4));
-    CHECK(memcmp(form, (const uint8_t[]){3, 0xC8, 0x3E, 7, 0xAA}, 5) == 0);
-    CHECK(refusal(crsf_restore_state(&state, form, 3), CRSF_BAD_STATE));
-    CHECK(refusal(crsf_restore_state(&state, form, 5), CRSF_BAD_STATE));
+    CHECK(refusal(crsf_save_state(&state, form, 6), CRSF_BUFFER_OVERFLOW) && form[0] == 0xAA);
+    CHECK(count(crsf_save_state(&state, form, sizeof form), 7));
+    CHECK(memcmp(form, (const uint8_t[]){0x40, 0x80, 2, 3, 0xC8, 0x3E, 7, 0xAA}, 8) == 0);
+    CHECK(refusal(crsf_restore_state(&state, form, 6), CRSF_BAD_STATE));
+    CHECK(refusal(crsf_restore_state(&state, form, 8), CRSF_BAD_STATE));
     CHECK(refusal(crsf_restore_state(&state, form, 0), CRSF_BAD_STATE));
     CHECK(refusal(crsf_restore_state(&state, (const uint8_t[]){0x80, 0}, 2), CRSF_BAD_STATE));
-    CHECK(count(crsf_held_count(&state), 3));
-    CHECK(count(crsf_forget(&state), 0) && count(crsf_held_count(&state), 0));
-    CHECK(count(crsf_restore_state(&state, form, 4), 3));
+    CHECK(count(crsf_held_count(&state), 3) && crsf_position_of(&state).position == 256);
+    CHECK(count(crsf_forget(&state), 0) && count(crsf_held_count(&state), 0) && crsf_position_of(&state).position == 0);
+    CHECK(count(crsf_restore_state(&state, form, 7), 3) && crsf_position_of(&state).position == 256);
+    /* what was saved without a position goes on from 0 */
+    CHECK(count(crsf_restore_state(&state, form + 3, 4), 3) && crsf_position_of(&state).position == 0);
     /* 64 held bytes have no saved form */
     memset(&state, 0, sizeof state);
     state.end = 64;
     CHECK(refusal(crsf_save_state(&state, form, sizeof form), CRSF_BAD_STATE));
     state.start = 1;
-    CHECK(count(crsf_save_state(&state, form, sizeof form), 64) && form[0] == 63);
+    CHECK(count(crsf_save_state(&state, form, sizeof form), 66) && form[2] == 63);
 }
 
 /* The payload of a frame that was just written. The frame is read as itself. */
@@ -167,7 +181,7 @@ static const uint8_t *payload_of(const uint8_t *buffer, size_t size, crsf_answer
 {
     crsf_state state = {0};
     CHECK(count(written, (uint8_t)(len + 4)) && written.len <= size);
-    CHECK(is(crsf_next(&state, buffer, written.len), CRSF_FRAME, written.len, 0, 0, written.len, 0, 0));
+    CHECK(is_at(crsf_next(&state, buffer, written.len), 0, CRSF_FRAME, written.len, 0, 0, written.len, 0, 0));
     CHECK(crsf_frame_address(buffer) == 0xC8 && crsf_frame_type(buffer) == type);
     CHECK(crsf_checksum(buffer + 2, (size_t)written.len - 3) == buffer[written.len - 1]);
     for (size_t i = written.len; i < size; i++)
@@ -356,7 +370,7 @@ static void series_writes(const series *r, uint8_t dest, bool listed, uint8_t id
         }
         want[4 + 2 * n] = check_byte(want + 2, 2 + 2 * n);
         CHECK(count(a, (uint8_t)(5 + 2 * n)));
-        CHECK(is(r->read(crsf_frame_payload(got), crsf_frame_payload_len(a), back, n), CRSF_OK, 0, 0, 0, (uint8_t)n, id, 0));
+        CHECK(is(r->read(crsf_frame_payload(got), crsf_frame_payload_len(a.len), back, n), CRSF_OK, 0, 0, 0, (uint8_t)n, id, 0));
         CHECK(memcmp(back, values, n * sizeof *values) == 0);
     }
     CHECK(memcmp(got, want, sizeof want) == 0);
