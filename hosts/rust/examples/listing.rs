@@ -24,7 +24,7 @@ fn main() -> Result<(), Box<dyn error::Error>> {
                 Err(CrsfStreamError::InvalidSync(byte)) => writeln!(out, "sync {byte:02X}")?,
                 Err(CrsfStreamError::InvalidPacketLength(length)) => writeln!(out, "length {length:02X}")?,
                 Err(CrsfStreamError::InvalidCrc { calculated, carried }) => writeln!(out, "crc {calculated:02X} {carried:02X}")?,
-                Err(CrsfStreamError::BadState) => return Err(CrsfStreamError::BadState.into()),
+                Err(nothing_taken @ (CrsfStreamError::BadState | CrsfStreamError::PositionRange)) => return Err(nothing_taken.into()),
             }
         }
         read += n as u64;

@@ -38,11 +38,19 @@ impl From<u64> for Raw {
 
 mod archive {
     extern "C" {
-        pub fn crsf_next_raw_packet(state: *mut u8, state_len: usize, input: *const u8, input_len: usize) -> u64;
+        pub fn crsf_next_raw_packet(
+            state: *mut u8,
+            state_len: usize,
+            input: *const u8,
+            input_len: usize,
+            position: *mut u64,
+            position_len: usize,
+        ) -> u64;
         pub fn crsf_reset(state: *mut u8, state_len: usize) -> u64;
         pub fn crsf_save(state: *const u8, state_len: usize, out: *mut u8, out_len: usize) -> u64;
         pub fn crsf_restore(state: *mut u8, state_len: usize, form: *const u8, form_len: usize) -> u64;
         pub fn crsf_held(state: *const u8, state_len: usize) -> u64;
+        pub fn crsf_position(state: *const u8, state_len: usize, position: *mut u64, position_len: usize) -> u64;
         pub fn crsf_is_address(byte: u8) -> bool;
         pub fn crsf_header_of(packet_type: u8) -> u8;
         pub fn crsf_checksum(bytes: *const u8, bytes_len: usize) -> u8;
@@ -151,8 +159,9 @@ mod archive {
 // SAFETY, of every call below: a slice is passed as its own pointer and length, a `&mut` one overlaps no other argument, and the entries keep nothing.
 // A number that is lent is a `&mut` of its own.
 
-pub fn next_raw_packet(state: &mut [u8], input: &[u8]) -> Answer {
-    unsafe { archive::crsf_next_raw_packet(state.as_mut_ptr(), state.len(), input.as_ptr(), input.len()) }.into()
+pub fn next_raw_packet(state: &mut [u8], input: &[u8], position: &mut [u64]) -> Answer {
+    let (places, count) = (position.as_mut_ptr(), position.len());
+    unsafe { archive::crsf_next_raw_packet(state.as_mut_ptr(), state.len(), input.as_ptr(), input.len(), places, count) }.into()
 }
 
 pub fn reset(state: &mut [u8]) -> Answer {
@@ -169,6 +178,10 @@ pub fn restore(state: &mut [u8], form: &[u8]) -> Answer {
 
 pub fn held(state: &[u8]) -> Answer {
     unsafe { archive::crsf_held(state.as_ptr(), state.len()) }.into()
+}
+
+pub fn position(state: &[u8], position: &mut [u64]) -> Answer {
+    unsafe { archive::crsf_position(state.as_ptr(), state.len(), position.as_mut_ptr(), position.len()) }.into()
 }
 
 pub fn is_address(byte: u8) -> bool {

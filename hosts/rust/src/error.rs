@@ -2,7 +2,7 @@
 use crate::entry::Answer;
 use std::fmt;
 
-/// What a stream refuses: one byte is dropped, and the next call goes on behind it.
+/// What a stream refuses. With the first three one byte is dropped, and the next call goes on behind it; the others take nothing.
 #[derive(Clone, Copy, Debug, PartialEq, Eq)]
 pub enum CrsfStreamError {
     /// 1: the byte is not an address.
@@ -16,8 +16,12 @@ pub enum CrsfStreamError {
         /// What it is.
         carried: u8,
     },
-    /// 8: the bytes are not a valid state, a saved form is malformed, or 64 bytes are held at a save. Nothing is changed.
+    /// 8: the bytes are not a valid state, a saved form is malformed, or at a save 64 bytes are held or they end above position 2^64 - 1. Nothing is
+    /// changed.
     BadState,
+    /// 12: the held bytes and the input would end above position 2^64 - 1. Nothing is taken or changed, so that the same call gives it again; a shorter
+    /// input may still be taken.
+    PositionRange,
 }
 
 /// What a record's reader or writer refuses. Nothing is made or written then.
@@ -61,6 +65,7 @@ impl CrsfStreamError {
             1 => CrsfStreamError::InvalidSync(answer.first),
             2 => CrsfStreamError::InvalidPacketLength(answer.first),
             3 => CrsfStreamError::InvalidCrc { calculated: answer.first, carried: answer.second },
+            12 => CrsfStreamError::PositionRange,
             _ => CrsfStreamError::BadState,
         }
     }
@@ -96,6 +101,7 @@ impl fmt::Display for CrsfStreamError {
             CrsfStreamError::InvalidPacketLength(length) => write!(f, "the length byte {length:02X} is not 2 to 62"),
             CrsfStreamError::InvalidCrc { calculated, carried } => write!(f, "the check byte is {carried:02X}, not {calculated:02X}"),
             CrsfStreamError::BadState => write!(f, "not a valid state or saved form"),
+            CrsfStreamError::PositionRange => write!(f, "the input would end above position 2^64 - 1"),
         }
     }
 }

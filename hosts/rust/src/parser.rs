@@ -1,14 +1,14 @@
-//! The parser: a state of 66 bytes that is lent to each call, and the frames that it lends.
+//! The parser: a state of 74 bytes that is lent to each call, and the frames that it lends.
 use crate::entry::{self, Raw};
 use crate::error::CrsfStreamError;
 
-const STATE_SIZE: usize = 66;
-const SAVED_MAX: usize = 64;
+const STATE_SIZE: usize = 74;
+const SAVED_MAX: usize = 75;
 
 /// Cuts a byte stream, in pieces of any size, into frames.
 #[derive(Clone, Debug, PartialEq, Eq)]
 pub struct CrsfParser {
-    /// Start, end, then the 64 places of the held bytes.
+    /// Start, end, then the 64 places of the held bytes, then the position, highest byte first.
     state: [u8; STATE_SIZE],
 }
 
@@ -19,20 +19,21 @@ impl Default for CrsfParser {
 }
 
 impl CrsfParser {
-    /// A parser that holds nothing.
+    /// A parser that holds nothing, at position 0.
     pub const fn new() -> Self {
         CrsfParser { state: [0; STATE_SIZE] }
     }
 
-    /// A parser over the 66 bytes of a state that was kept elsewhere. Bytes that are not a valid state are refused with `BadState`, so no parser has
-    /// them.
+    /// A parser over the 74 bytes of a state that was kept elsewhere. Bytes that are not a valid state are refused with `BadState`, so no parser has
+    /// them. Whatever its position is, the state is valid; but where its held bytes end above position 2^64 - 1, it has no saved form, and every call of
+    /// the stream is `PositionRange` until a reset.
     pub fn from_state(state: [u8; STATE_SIZE]) -> Result<Self, CrsfStreamError> {
         let parser = CrsfParser { state };
         parser.held()?;
         Ok(parser)
     }
 
-    /// The 66 bytes of the state: start, end, and the 64 places of the held bytes.
+    /// The 74 bytes of the state: start, end, the 64 places of the held bytes, and the position, highest byte first.
     pub const fn state(&self) -> &[u8; STATE_SIZE] {
         &self.state
     }
@@ -41,7 +42,8 @@ impl CrsfParser {
     ///
     /// A frame is lent from `input` if nothing was held before the call, else from the parser. Call again until `None`: an answer may be due with no
     /// input left. With `None` all of `input` is taken. After a refusal one byte is dropped, and the next call goes on behind it; it is never
-    /// `BadState`, since a parser's state is valid.
+    /// `BadState`, since a parser's state is valid. With `PositionRange` alone nothing is taken, and asking again changes nothing: a loop
+    /// `while let Some(..)` has to end there. It comes where the stream would go above position 2^64 - 1.
     ///
     /// ```
     /// use crsf_host::{CrsfParser, CrsfStreamError};
@@ -56,21 +58,53 @@ impl CrsfParser {
     /// assert_eq!(parser.held(), Ok(3));
     /// ```
     pub fn next_raw_packet<'p, 'i: 'p>(&'p mut self, input: &mut &'i [u8]) -> Option<Result<RawCrsfPacket<'p>, CrsfStreamError>> {
+        self.next_answer(input).map(|answer| answer.result)
+    }
+
+    /// What [`CrsfParser::next_raw_packet`] gives, with the position where it began in the stream, however that was cut.
+    ///
+    /// With `PositionRange` nothing is taken, and asking again changes nothing: a loop `while let Some(..)` has to end there.
+    ///
+    /// ```
+    /// use crsf_host::CrsfParser;
+    ///
+    /// let mut parser = CrsfParser::new();
+    /// let mut found = Vec::new();
+    /// for mut piece in [0xC8, 2, 0, 0, 0x55, 0xC8, 2, 0, 0, 0xC8].chunks(3) {
+    ///     while let Some(answer) = parser.next_answer(&mut piece) {
+    ///         found.push((answer.position, answer.result.is_ok()));
+    ///     }
+    /// }
+    /// assert_eq!(found, [(0, true), (4, false), (5, true)]);
+    /// assert_eq!(parser.position(), 9); // of the byte that is held
+    /// ```
+    pub fn next_answer<'p, 'i: 'p>(&'p mut self, input: &mut &'i [u8]) -> Option<StreamAnswer<'p>> {
         let piece: &'i [u8] = input;
-        let answer = entry::next_raw_packet(&mut self.state, piece);
+        let mut position = [0];
+        let answer = entry::next_raw_packet(&mut self.state, piece, &mut position);
         *input = &piece[answer.taken..];
-        match answer.number {
-            255 => None,
+        let result = match answer.number {
+            255 => return None,
             0 => {
                 let place: &'p [u8] = if answer.in_state { &self.state } else { piece };
                 // A frame has 4 bytes at least, so there is a view of it.
-                RawCrsfPacket::new(&place[answer.at..answer.at + answer.len]).map(Ok)
+                Ok(RawCrsfPacket::new(&place[answer.at..answer.at + answer.len])?)
             }
-            _ => Some(Err(CrsfStreamError::of(answer))),
-        }
+            12 => return Some(StreamAnswer { position: self.position(), result: Err(CrsfStreamError::PositionRange) }),
+            _ => Err(CrsfStreamError::of(answer)),
+        };
+        Some(StreamAnswer { position: position[0], result })
     }
 
-    /// Forgets the held bytes. Unread input then begins a new stream.
+    /// The position of the first held byte, or, where nothing is held, of the next byte: how many bytes of the stream came before it.
+    pub fn position(&self) -> u64 {
+        let mut position = [0];
+        // Never refused, since a parser's state is valid.
+        entry::position(&self.state, &mut position);
+        position[0]
+    }
+
+    /// Forgets the held bytes. Unread input then begins a new stream, at position 0.
     pub fn reset(&mut self) {
         entry::reset(&mut self.state);
     }
@@ -85,7 +119,7 @@ impl CrsfParser {
         }
     }
 
-    /// The saved form of what is held: a parser restored from it goes on where this one is. After `None` it is never refused.
+    /// The saved form of the position and of what is held: a parser restored from it goes on where this one is. After `None` it is never refused.
     pub fn save(&self) -> Result<SavedParser, CrsfStreamError> {
         let mut form = [0; SAVED_MAX];
         let answer = entry::save(&self.state, &mut form);
@@ -96,7 +130,7 @@ impl CrsfParser {
         }
     }
 
-    /// The parser of a saved form. A form that no save writes is refused.
+    /// The parser of a saved form. A form that no save writes is refused; one that was saved before version 0.7.0, without a position, is at 0.
     pub fn restore(form: &[u8]) -> Result<Self, CrsfStreamError> {
         let mut parser = CrsfParser::new();
         let answer = entry::restore(&mut parser.state, form);
@@ -108,7 +142,16 @@ impl CrsfParser {
     }
 }
 
-/// A saved form: a count, and the held bytes. To be kept as the bytes that `as_ref` shows.
+/// An answer of the stream, its frame lent.
+#[derive(Clone, Copy, Debug, PartialEq, Eq)]
+pub struct StreamAnswer<'p> {
+    /// Where it began in the stream: the position of its first byte. Of `PositionRange`, which takes none, the parser's own.
+    pub position: u64,
+    /// What [`CrsfParser::next_raw_packet`] gives.
+    pub result: Result<RawCrsfPacket<'p>, CrsfStreamError>,
+}
+
+/// A saved form: the position, a count, and the held bytes. To be kept as the bytes that `as_ref` shows.
 #[derive(Clone, Debug)]
 pub struct SavedParser {
     form: [u8; SAVED_MAX],

@@ -1,7 +1,8 @@
 //! The worked cases of the rules, cuts, saves and restores midway, hostile states, and the records, through the wrappers.
 use crsf_host::*;
 
-/// What a stream says, in the listing's lines, in pieces of `piece` bytes, with a save and a restore before the call numbered `save_at`.
+/// What a stream says, in the listing's lines with their positions, in pieces of `piece` bytes, with a save and a restore before the call numbered
+/// `save_at`.
 fn lines(bytes: &[u8], piece: usize, save_at: usize) -> Vec<String> {
     let mut parser = CrsfParser::new();
     let (mut out, mut calls) = (Vec::new(), 0);
@@ -12,30 +13,30 @@ fn lines(bytes: &[u8], piece: usize, save_at: usize) -> Vec<String> {
                 parser = CrsfParser::restore(saved.as_ref()).unwrap();
             }
             calls += 1;
-            match parser.next_raw_packet(&mut input) {
-                None => break,
-                Some(Ok(frame)) => out.push(format!("frame {:02X} {:02X} {}", frame.dst_addr(), frame.raw_packet_type(), frame.payload().len())),
-                Some(Err(CrsfStreamError::InvalidSync(byte))) => out.push(format!("sync {byte:02X}")),
-                Some(Err(CrsfStreamError::InvalidPacketLength(length))) => out.push(format!("length {length:02X}")),
-                Some(Err(CrsfStreamError::InvalidCrc { calculated, carried })) => out.push(format!("crc {calculated:02X} {carried:02X}")),
-                Some(Err(CrsfStreamError::BadState)) => panic!("the parser's own state is refused"),
-            }
+            let Some(StreamAnswer { position, result }) = parser.next_answer(&mut input) else { break };
+            out.push(match result {
+                Ok(frame) => format!("{position} frame {:02X} {:02X} {}", frame.dst_addr(), frame.raw_packet_type(), frame.payload().len()),
+                Err(CrsfStreamError::InvalidSync(byte)) => format!("{position} sync {byte:02X}"),
+                Err(CrsfStreamError::InvalidPacketLength(length)) => format!("{position} length {length:02X}"),
+                Err(CrsfStreamError::InvalidCrc { calculated, carried }) => format!("{position} crc {calculated:02X} {carried:02X}"),
+                Err(refusal) => panic!("the parser's own state: {refusal}"),
+            });
         }
         assert!(input.is_empty());
     }
-    out.push(format!("held {}", parser.held().unwrap()));
+    out.push(format!("{} held {}", parser.position(), parser.held().unwrap()));
     out
 }
 
 const CASES: [(&[u8], &[&str]); 8] = [
-    (&[0xC8, 2, 0, 0], &["frame C8 00 0", "held 0"]),
-    (&[0xC8, 2, 0, 0, 0x55, 0xC8, 2, 0], &["frame C8 00 0", "sync 55", "held 3"]),
-    (&[0xC8, 2, 0, 1], &["crc 00 01", "sync 02", "length 01", "sync 01", "held 0"]),
-    (&[0xC8, 1], &["length 01", "sync 01", "held 0"]),
-    (&[0, 0], &["length 00", "held 1"]),
-    (&[0xC8, 0x3F], &["length 3F", "sync 3F", "held 0"]),
-    (&[0xC8, 0x3E], &["held 2"]),
-    (&[0xC8], &["held 1"]),
+    (&[0xC8, 2, 0, 0], &["0 frame C8 00 0", "4 held 0"]),
+    (&[0xC8, 2, 0, 0, 0x55, 0xC8, 2, 0], &["0 frame C8 00 0", "4 sync 55", "5 held 3"]),
+    (&[0xC8, 2, 0, 1], &["0 crc 00 01", "1 sync 02", "2 length 01", "3 sync 01", "4 held 0"]),
+    (&[0xC8, 1], &["0 length 01", "1 sync 01", "2 held 0"]),
+    (&[0, 0], &["0 length 00", "1 held 1"]),
+    (&[0xC8, 0x3F], &["0 length 3F", "1 sync 3F", "2 held 0"]),
+    (&[0xC8, 0x3E], &["0 held 2"]),
+    (&[0xC8], &["0 held 1"]),
 ];
 
 #[test]
@@ -82,7 +83,7 @@ fn stream() -> Vec<u8> {
 fn no_answer_is_lost_or_repeated() {
     let bytes = stream();
     let whole = lines(&bytes, bytes.len(), usize::MAX);
-    assert!(whole.iter().filter(|line| line.starts_with("frame")).count() > 15);
+    assert!(whole.iter().filter(|line| line.contains(" frame ")).count() > 15);
     for piece in [1, 2, 3, 5, 7, 16, 63, 64, 65, 200] {
         assert_eq!(lines(&bytes, piece, usize::MAX), whole);
         for save_at in (0..bytes.len()).step_by(13) {
@@ -117,7 +118,7 @@ fn a_frame_is_lent_whole() {
 fn hostile_states_are_refused() {
     for start in 0..=255u8 {
         for end in 0..=255u8 {
-            let mut state = [0x5A; 66];
+            let mut state = [0x5A; 74];
             (state[0], state[1]) = (start, end);
             if start > end || end > 64 {
                 assert_eq!(CrsfParser::from_state(state), Err(CrsfStreamError::BadState));
@@ -125,11 +126,11 @@ fn hostile_states_are_refused() {
             }
             let mut parser = CrsfParser::from_state(state).unwrap();
             assert_eq!(parser.state(), &state);
-            assert_eq!(parser.held(), Ok(usize::from(end - start)));
+            assert_eq!((parser.held(), parser.position()), (Ok(usize::from(end - start)), 0x5A5A_5A5A_5A5A_5A5A));
             assert_eq!(parser.save().is_ok(), end - start < 64);
             assert_ne!(parser.next_raw_packet(&mut &[0xC8, 2, 0, 0][..]), Some(Err(CrsfStreamError::BadState)));
             parser.reset();
-            assert_eq!(parser.held(), Ok(0));
+            assert_eq!((parser.held(), parser.position()), (Ok(0), 0));
         }
     }
 }
@@ -144,7 +145,9 @@ fn malformed_forms_are_refused() {
         form[0] = count as u8;
         let parser = CrsfParser::restore(&form).unwrap();
         assert_eq!(parser.held(), Ok(count));
-        assert_eq!(parser.save().unwrap().as_ref(), form);
+        let saved = parser.save().unwrap();
+        assert_eq!(saved.as_ref(), [&[0x40, 0][..], &form].concat());
+        assert_eq!(CrsfParser::restore(saved.as_ref()), Ok(parser));
     }
 }
 
