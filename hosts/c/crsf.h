@@ -1,5 +1,6 @@
 /*
- * CRSF frames for a host in C: cut a byte stream into frames, save and restore midway, write and read records, write and read kit logs.
+ * CRSF frames for a host in C: cut a byte stream into frames and say where each begins, save and restore midway, write and read records, write and
+ * read kit logs.
  *
  * Link the archive: libcrsf.a where `./install PREFIX` put it (`pkg-config --cflags --libs crsf` has the flags), or target/staticlib/libhost.a
  * where `rt staticlib host` wrote it. It is for x86-64 Linux, allocates nothing, keeps nothing between calls, and needs nothing from outside, not
