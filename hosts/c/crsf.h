@@ -93,13 +93,14 @@ enum {
     CRSF_CHANNEL_RANGE = 6,          /* first: the index of the first channel above 2047, 0 of a single one; of a burst, first: the set that has
                                       * it, second: its index in that set. Nothing was written */
     CRSF_BAD_ADDRESS = 7,            /* a destination that is not an address. Nothing was written */
-    CRSF_BAD_STATE = 8,              /* not a valid state, or a malformed saved form; at a save 64 held bytes, or held bytes that end above
-                                      * position 2^64 - 1. Nothing was taken or changed */
+    CRSF_BAD_STATE = 8,              /* not a valid state, or a malformed saved form; at a save 64 held bytes, or a position behind them
+                                      * that is above 2^64 - 1. Nothing was taken or changed */
     CRSF_INVALID_LOG = 9,            /* of a log: a malformed number, a first number other than 1, an end inside an entry or before the 1, a byte
                                       * behind the end */
     CRSF_INVALID_FRAME = 10,         /* of a log: a length that is not 4 to 64, or bytes that are not one whole valid frame */
     CRSF_CAPACITY_RANGE = 11,        /* a battery's capacity of 2^24 or more, for which its 24 bits have no room. Nothing was written */
-    CRSF_POSITION_RANGE = 12,        /* of the stream: the held bytes and the input would end above position 2^64 - 1. Nothing was taken or changed */
+    CRSF_POSITION_RANGE = 12,        /* of the stream: the position behind the held bytes and the input would be above 2^64 - 1. Nothing was
+                                      * taken or changed */
     CRSF_MORE = 255                  /* no answer yet: all of the input is taken, and more is asked for */
 };
 
@@ -127,8 +128,8 @@ enum {
  * input + taken on are unread, and the next call goes on there (with no input at all if none is left).
  *   position   its first place gets the position where the answer began, of a frame and of refusals 1 to 3: that of its first byte, which is where
  *              the parser was before the call. Nothing else is written there, and nothing at all with CRSF_MORE, 8 and 12. position_len may be 0
- * Refusal 8 is tested first, then 12: the parser's position, the held bytes and input_len together are above 2^64 - 1. So no position is ever above
- * that, and a shorter piece may still do. */
+ * Refusal 8 is tested first, then 12: the parser's position, the count of held bytes and input_len add up to more than 2^64 - 1. A shorter input may
+ * still be taken. */
 crsf_answer crsf_next_raw_packet(uint8_t *state, size_t state_len, const uint8_t *input, size_t input_len, uint64_t *position,
                                  size_t position_len);
 
@@ -381,7 +382,7 @@ typedef struct crsf_call {
     uint8_t first;
     uint8_t second;
     uint8_t zero;
-    uint64_t position; /* of a frame and of refusals 1 to 3: where it began in the stream; else 0 */
+    uint64_t position; /* crsf_next: where in the stream a frame or a refusal, 1 to 3, began; crsf_position_of: where the parser is; else 0 */
 } crsf_call;
 
 static inline crsf_call crsf_call_of(crsf_answer answer, uint64_t position)
@@ -417,7 +418,7 @@ static inline crsf_answer crsf_held_count(const crsf_state *state)
     return crsf_held((const uint8_t *)state, sizeof *state);
 }
 
-/* Where the parser is. The position is 0 with refusal 8. */
+/* Where the parser is: the answer of crsf_position, with the position. */
 static inline crsf_call crsf_position_of(const crsf_state *state)
 {
     uint64_t position = 0;

@@ -40,7 +40,7 @@ static void put_position(uint8_t *state, uint64_t position)
         state[i] = (uint8_t)(position % 256);
 }
 
-/* Whether so many bytes from a position on end above 2^64 - 1. */
+/* Whether the position behind so many bytes is above 2^64 - 1. */
 static bool beyond(uint64_t position, size_t n)
 {
     return n > TOP - position;
@@ -376,7 +376,7 @@ static void each_edge(void)
         }
 }
 
-/* What just ends at 2^64 - 1, or short of it or behind it, for every count of held bytes and of the input. */
+/* Every count of held bytes and of the input, with the position behind them from three short of the last one to three above it. */
 static void each_end(void)
 {
     uint8_t state[STATE];
@@ -387,7 +387,7 @@ static void each_end(void)
                 const size_t n = i <= 70 ? i : longer[i - 71];
                 if (held + n + 3 < end)
                     continue;
-                put_state(state, noise() % (65 - held), held, TOP - (held + n + 3 - end)); /* from 3 short of it to 3 behind it */
+                put_state(state, noise() % (65 - held), held, TOP - (held + n + 3 - end));
                 const crsf_answer a = next_is(state, STATE, put_held(state, held), n, noise() % (SLOTS + 1));
                 CHECK((a.number == 12) == (end > 3));
             }
@@ -505,7 +505,7 @@ static void each_save(void)
 }
 
 /* A stream in pieces, from a position on, that is put away between calls and taken up in another state: each answer is its reading's, at the place of
- * its first byte, whatever the pieces. What ends above 2^64 - 1 is refused, and a shorter piece is read; in the end all that has a position was. */
+ * its first byte, whatever the pieces. A piece with no position behind it is refused, and a shorter one is read. */
 static void reads_from(uint64_t first, size_t n)
 {
     uint8_t state[STATE], other[STATE], form[LONGEST];
@@ -660,7 +660,7 @@ static void by_hand(void)
     CHECK(refusal(crsf_save_state(&state, form, 74), CRSF_BUFFER_OVERFLOW) && form[0] == 0xAA && form[73] == 0xAA);
     CHECK(count(crsf_save_state(&state, form, 75), 75) && form[0] == 0x40 && form[1] == 0xC0 && form[10] == 1 && form[11] == 63);
 
-    /* the last positions: what would end behind them is refused, again and again; a state that does can be asked, reset and restored */
+    /* the last positions: what has none behind it is refused, again and again; a state like that can be asked, reset and restored */
     memset(state.position, 0xFF, sizeof state.position);
     state.start = state.end = 0;
     CHECK(asks_more(crsf_next(&state, NULL, 0), 0));

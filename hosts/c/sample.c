@@ -30,8 +30,8 @@ int main(void)
         if (frames != 2 || frame_bytes != 8 || positions != 0 + 5 || crsf_held_count(&state).len != 3 || crsf_position_of(&state).position != 15)
             return 1;
     }
-    /* every state, at 0 and where the held bytes and the input may end behind the last position: it ends, with 8 where the state is not valid, then
-     * with 12 where they do, and then nothing has changed */
+    /* every state, at 0 and near the last position: it ends, with 8 where the state is not valid, with 12 where there is no position behind the input,
+     * and then nothing has changed */
     for (unsigned start = 0; start < 256; start++)
         for (unsigned end = 0; end < 256; end++)
             for (unsigned last = 0; last < 4; last++) {

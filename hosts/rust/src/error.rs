@@ -16,11 +16,11 @@ pub enum CrsfStreamError {
         /// What it is.
         carried: u8,
     },
-    /// 8: the bytes are not a valid state, a saved form is malformed, or at a save 64 bytes are held or they end above position 2^64 - 1. Nothing is
-    /// changed.
+    /// 8: the bytes are not a valid state, a saved form is malformed, or at a save 64 bytes are held or the position behind them is above 2^64 - 1.
+    /// Nothing is changed.
     BadState,
-    /// 12: the held bytes and the input would end above position 2^64 - 1. Nothing is taken or changed, so that the same call gives it again; a shorter
-    /// input may still be taken.
+    /// 12: the position behind the held bytes and the input would be above 2^64 - 1. Nothing is taken or changed, so that the same call gives it again;
+    /// a shorter input may still be taken.
     PositionRange,
 }
 
@@ -101,7 +101,7 @@ impl fmt::Display for CrsfStreamError {
             CrsfStreamError::InvalidPacketLength(length) => write!(f, "the length byte {length:02X} is not 2 to 62"),
             CrsfStreamError::InvalidCrc { calculated, carried } => write!(f, "the check byte is {carried:02X}, not {calculated:02X}"),
             CrsfStreamError::BadState => write!(f, "not a valid state or saved form"),
-            CrsfStreamError::PositionRange => write!(f, "the input would end above position 2^64 - 1"),
+            CrsfStreamError::PositionRange => write!(f, "the position behind the input would be above 2^64 - 1"),
         }
     }
 }

@@ -25,8 +25,8 @@ impl CrsfParser {
     }
 
     /// A parser over the 74 bytes of a state that was kept elsewhere. Bytes that are not a valid state are refused with `BadState`, so no parser has
-    /// them. Whatever its position is, the state is valid; but where its held bytes end above position 2^64 - 1, it has no saved form, and every call of
-    /// the stream is `PositionRange` until a reset.
+    /// them. Whatever its position is, the state is valid; but where the position behind its held bytes is above 2^64 - 1, it has no saved form, and every
+    /// call of the stream gives `PositionRange` until a reset.
     pub fn from_state(state: [u8; STATE_SIZE]) -> Result<Self, CrsfStreamError> {
         let parser = CrsfParser { state };
         parser.held()?;
@@ -43,7 +43,7 @@ impl CrsfParser {
     /// A frame is lent from `input` if nothing was held before the call, else from the parser. Call again until `None`: an answer may be due with no
     /// input left. With `None` all of `input` is taken. After a refusal one byte is dropped, and the next call goes on behind it; it is never
     /// `BadState`, since a parser's state is valid. With `PositionRange` alone nothing is taken, and asking again changes nothing: a loop
-    /// `while let Some(..)` has to end there. It comes where the stream would go above position 2^64 - 1.
+    /// `while let Some(..)` has to end there. It comes where the position behind `input` would be above 2^64 - 1.
     ///
     /// ```
     /// use crsf_host::{CrsfParser, CrsfStreamError};

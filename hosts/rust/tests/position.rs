@@ -71,14 +71,14 @@ impl Model {
         Some(Model { position: u64::from_be_bytes(state[66..].try_into().unwrap()), held: state[2 + start..2 + end].to_vec() })
     }
 
-    /// Whether the held bytes, and so many behind them, end above the last position.
-    fn ends_above(&self, more: usize) -> bool {
+    /// Whether the position behind the held bytes, and so many more, is above the last one.
+    fn is_above(&self, more: usize) -> bool {
         u128::from(self.position) + (self.held.len() + more) as u128 > u128::from(TOP)
     }
 
     /// A call (RULES 6): what it says, and how many bytes of the input it takes.
     fn call(&mut self, input: &[u8]) -> (Said, usize) {
-        if self.ends_above(input.len()) {
+        if self.is_above(input.len()) {
             return (Some(Err(PositionRange)), 0);
         }
         let all = [&self.held[..], input].concat();
@@ -109,7 +109,7 @@ impl Model {
 
     /// What a save writes.
     fn save(&self) -> Option<Vec<u8>> {
-        (self.held.len() < 64 && !self.ends_above(0)).then(|| self.form())
+        (self.held.len() < 64 && !self.is_above(0)).then(|| self.form())
     }
 
     /// What a form says: with the mark a number in groups of seven bits first, in its shortest form; then a count and as many bytes.
@@ -126,7 +126,7 @@ impl Model {
         };
         let (&count, held) = rest.split_first()?;
         let parser = Model { position: position.try_into().ok()?, held: held.to_vec() };
-        (count <= 63 && held.len() == usize::from(count) && !parser.ends_above(0)).then_some(parser)
+        (count <= 63 && held.len() == usize::from(count) && !parser.is_above(0)).then_some(parser)
     }
 }
 
@@ -497,7 +497,7 @@ fn every_form_cut_and_changed() {
             for cut in 0..form.len() {
                 assert_eq!(noise.restore(&mut state, &form[..cut]), None);
             }
-            assert_eq!(noise.restore(&mut state, &form), Some(parser.clone()).filter(|parser| !parser.ends_above(0)));
+            assert_eq!(noise.restore(&mut state, &form), Some(parser.clone()).filter(|parser| !parser.is_above(0)));
             assert_eq!(noise.restore(&mut state, &[&form[..], &[0]].concat()), None);
             let old = &form[form.len() - held - 1..];
             assert_eq!(noise.restore(&mut state, old), Some(Model { position: 0, held: parser.held }));
@@ -559,7 +559,7 @@ fn a_save_into_every_length() {
 }
 
 /// In pieces, from a position on, put away between calls and taken up elsewhere: each answer is that of the whole stream's reading, at the place of its
-/// first byte. What would end above the last position is refused, and a shorter piece is read; in the end all that has a position was.
+/// first byte. A piece with no position behind it is refused, and a shorter one is read.
 #[test]
 fn streams_in_any_pieces() {
     let mut noise = Noise(8);
@@ -734,7 +734,7 @@ fn the_last_positions() {
     let refusal = Some(StreamAnswer { position: TOP, result: Err(PositionRange) });
     assert_eq!(parser.next_answer(&mut &[0x55][..]), refusal);
     assert_eq!(parser.state(), &state);
-    assert_eq!(PositionRange.to_string(), "the input would end above position 2^64 - 1");
+    assert_eq!(PositionRange.to_string(), "the position behind the input would be above 2^64 - 1");
     // One byte is held at the last position: it has no saved form, and it can be asked and reset.
     state[1] = 1;
     let mut parser = CrsfParser::from_state(state).unwrap();
