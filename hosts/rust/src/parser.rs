@@ -25,8 +25,8 @@ impl CrsfParser {
     }
 
     /// A parser over the 74 bytes of a state that was kept elsewhere. Bytes that are not a valid state are refused with `BadState`, so no parser has
-    /// them. Whatever its position is, the state is valid; but where the position behind its held bytes is above 2^64 - 1, it has no saved form, and every
-    /// call of the stream gives `PositionRange` until a reset.
+    /// them. Whatever its position is, the state is valid; but where the position behind its held bytes is above 2^64 - 1, it has no saved form, and
+    /// every call of the stream gives `PositionRange` until a reset.
     pub fn from_state(state: [u8; STATE_SIZE]) -> Result<Self, CrsfStreamError> {
         let parser = CrsfParser { state };
         parser.held()?;

@@ -1,5 +1,5 @@
-//! The stream and its positions, against a plain model: what each entry of the state answers, and what then stands in the state, in a saved form and in
-//! the places for a position, from the rules alone. Nothing of the archive is asked for what is expected. Each call is made twice: by the entry itself, for
+//! The stream and its positions, against a plain model: what each entry of the state answers, and what then stands in the state, in a saved form and
+//! in the places for a position, from the rules alone. Nothing of the archive is asked for what is expected. Each call is made by the entry itself, for
 //! the eight bytes of its answer, and through the wrapper, where there is a parser of that state.
 use crsf_host::{CrsfParser, CrsfStreamError, StreamAnswer};
 use CrsfStreamError::{BadState, InvalidCrc, InvalidPacketLength, InvalidSync, PositionRange};
