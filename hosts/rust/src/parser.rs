@@ -90,10 +90,11 @@ impl CrsfParser {
                 // A frame has 4 bytes at least, so there is a view of it.
                 Ok(RawCrsfPacket::new(&place[answer.at..answer.at + answer.len])?)
             }
-            12 => return Some(StreamAnswer { position: self.position(), result: Err(CrsfStreamError::PositionRange) }),
             _ => Err(CrsfStreamError::of(answer)),
         };
-        Some(StreamAnswer { position: position[0], result })
+        // Of all these the entry leaves the place for a position alone with `PositionRange`, and the parser is where it was.
+        let position = if result == Err(CrsfStreamError::PositionRange) { self.position() } else { position[0] };
+        Some(StreamAnswer { position, result })
     }
 
     /// The position of the first held byte, or, where nothing is held, of the next byte: how many bytes of the stream came before it.
