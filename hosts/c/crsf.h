@@ -28,8 +28,8 @@
  *
  * Stack: bytes that a call needs at most, with its return address and its arguments counted in. Measured on x86-64 by painting the stack:
  * `hosts/test --stack` measures again, and fails where a call needs more than this.
- *     crsf_next_raw_packet              104        crsf_reset                         24
- *     crsf_save                          88        crsf_restore                       24
+ *     crsf_next_raw_packet              120        crsf_reset                         24
+ *     crsf_save                         408        crsf_restore                      104
  *     crsf_held                          24        crsf_position                      24
  *     crsf_is_address                    24        crsf_header_of                     24
  *     crsf_checksum                      56        crsf_pack_altitude                 24
