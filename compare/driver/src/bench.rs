@@ -136,16 +136,29 @@ fn stream_rust(next: Next, bytes: &[u8], piece: usize) -> u64 {
     sum
 }
 
-/// The same through the port's entry.
+/// How many bytes an archive's state has: 66 before there were positions.
+fn state_len(entries: &Entries) -> usize {
+    let mut state: State = [0; 74];
+    if entries.reset(&mut state) == Answer::default() {
+        state.len()
+    } else {
+        66
+    }
+}
+
+/// The same through the port's entry, with so many places lent for the position of an answer. A host lends one. An entry from before there were positions
+/// takes four arguments and doesn't look at the registers in which two more come, so that one loop serves both.
 #[inline(never)]
-fn stream_ours(entries: &Entries, bytes: &[u8], piece: usize) -> u64 {
+fn stream_ours<const LENT: usize>(entries: &Entries, bytes: &[u8], piece: usize) -> u64 {
     let entries = entries.kept();
-    let mut state: State = [0; 66];
+    let mut state: State = [0; 74];
+    let state = &mut state[..state_len(&entries)];
+    let mut position = [0; LENT];
     let mut sum = 0;
     for piece in bytes.chunks(piece) {
         let mut left = piece;
         loop {
-            let a = entries.next_raw_packet(&mut state, left);
+            let a = entries.next_raw_packet(state, left, &mut position);
             if a.number == ours::MORE {
                 break;
             }
@@ -199,7 +212,7 @@ fn walk_rust<'p>(_: &'p mut CrsfParser, input: &mut &[u8]) -> Option<Result<RawC
 }
 
 /// The same in the place of the port's entry.
-unsafe extern "C" fn walk_ours(_: *mut u8, _: usize, input: *const u8, len: usize) -> Answer {
+unsafe extern "C" fn walk_ours(_: *mut u8, _: usize, input: *const u8, len: usize, _: *mut u64, _: usize) -> Answer {
     /// Kept apart, so that a test stays a branch: a conditional move would make each frame wait for the test of the one before.
     #[cold]
     #[inline(never)]
@@ -240,11 +253,12 @@ fn floor_rust(bytes: &[u8]) -> u64 {
 #[inline(never)]
 fn floor_ours(entries: &Entries, bytes: &[u8]) -> u64 {
     let entries = walking(entries).kept();
-    let mut state: State = [0; 66];
+    let mut state: State = [0; 74];
+    let mut position = [0; 1];
     let mut sum = 0;
     let mut left = bytes;
     loop {
-        let a = entries.next_raw_packet(&mut state, left);
+        let a = entries.next_raw_packet(&mut state, left, &mut position);
         if a.number == ours::MORE {
             break;
         }
@@ -635,7 +649,7 @@ pub fn once(listing: Option<Listing>) {
     }
     let mut rows = Rows { rows: vec![], archives: archives() };
     let mut stream = |name: &str, unit, count, bytes: &'static [u8], piece| {
-        rows.add(name, unit, count, move || stream_rust(next_rust(), bytes, piece), move |e| stream_ours(e, bytes, piece))
+        rows.add(name, unit, count, move || stream_rust(next_rust(), bytes, piece), move |e| stream_ours::<1>(e, bytes, piece))
     };
     stream(CONTIGUOUS, "frame", frames.len(), typical, WHOLE);
     stream("typical frames in 64-byte pieces", "byte", typical.len(), typical, 64);
@@ -652,8 +666,8 @@ pub fn once(listing: Option<Listing>) {
     burst_rows::<SETS>(&mut rows);
     burst_rows::<1>(&mut rows);
     altitude_rows(&mut rows);
-    rows.add(LOOP, "frame", frames.len(), || stream_rust(walk_rust, typical, WHOLE), |e| stream_ours(&walking(e), typical, WHOLE));
-    rows.add(LOOP_BYTES, "byte", typical.len(), || stream_rust(walk_rust, typical, 1), |e| stream_ours(&walking(e), typical, 1));
+    rows.add(LOOP, "frame", frames.len(), || stream_rust(walk_rust, typical, WHOLE), |e| stream_ours::<1>(&walking(e), typical, WHOLE));
+    rows.add(LOOP_BYTES, "byte", typical.len(), || stream_rust(walk_rust, typical, 1), |e| stream_ours::<1>(&walking(e), typical, 1));
     rows.add(FLOOR, "frame", frames.len(), || floor_rust(typical), |e| floor_ours(e, typical));
     empty_rows(&mut rows);
     rows.time();

@@ -1,18 +1,23 @@
 //! The stream call: the Rust's parser and the port's, fed the same windows of the same bytes, every answer compared.
+//!
+//! The Rust has no positions. They are counted here, from what it took and dropped: an answer begins behind all bytes that were dropped before it, since
+//! the reset, or since the position that was restored.
 use crate::gen::{self, hex, Rng, ADDRESSES, EDGES};
-use crate::ours::{self, Answer, State};
+use crate::ours::{self, Answer, Places, State};
 use crate::report::{Family, Report};
 use uf_crsf::{CrsfParser, CrsfStreamError};
 
 /// One thing that a host does.
 #[derive(Clone, Copy, Debug, PartialEq)]
-pub enum Op {
+enum Op {
     /// A call on that many of the unread bytes, or on all where there are fewer.
     Call(usize),
     /// A reset: what is held is forgotten on both sides.
     Reset,
     /// The port's state is saved and restored into another that is full of old bytes. The Rust goes on as it is.
     Saved,
+    /// The same from a form of the held bytes that was not saved here: at that position, or the form that has none.
+    Restored(Option<u64>),
 }
 
 /// What differed, in words.
@@ -21,23 +26,55 @@ pub struct Difference(String);
 /// How often each kind of answer came up.
 #[derive(Default)]
 pub struct Tally {
-    pub in_piece: u64,
-    pub in_held: u64,
-    pub sync: u64,
-    pub length: u64,
-    pub crc: u64,
-    pub more: u64,
-    pub resets: u64,
-    pub saved: u64,
+    in_piece: u64,
+    in_held: u64,
+    /// By number.
+    refused: [u64; 13],
+    more: u64,
+    resets: u64,
+    saved: u64,
+    restored: u64,
+}
+
+impl Tally {
+    pub fn print(&self) {
+        let [_, sync, length, crc, .., range] = self.refused;
+        println!(
+            "    of these: {} frames in the piece, {} among the held bytes, {sync} sync, {length} length, {crc} crc, {} ask for more, {range} past the last \
+             position; {} resets, {} saves, {} restores of other forms",
+            self.in_piece, self.in_held, self.more, self.resets, self.saved, self.restored
+        );
+    }
+}
+
+/// What a stream begins with: a state that holds nothing, and how many places are lent for the position of an answer.
+#[derive(Clone, Copy, PartialEq)]
+struct Begin {
+    state: State,
+    lent: usize,
+}
+
+impl Begin {
+    fn position(&self) -> u64 {
+        position_in(&self.state)
+    }
+}
+
+/// The position that stands in a state.
+fn position_in(state: &State) -> u64 {
+    u64::from_be_bytes(*state.last_chunk().expect("a state ends with its position"))
 }
 
 /// Both parsers, on one byte string.
-struct Both<'a> {
+pub struct Both<'a> {
     bytes: &'a [u8],
     at: usize,
     held: usize,
+    /// Where the first byte stands that the Rust holds, else the next one.
+    position: u64,
     rust: CrsfParser,
     state: State,
+    lent: usize,
     ops: &'a mut Vec<Op>,
     tally: &'a mut Tally,
 }
@@ -47,23 +84,49 @@ fn as_answer(number: u8, taken: usize, first: u8, second: u8) -> Answer {
     Answer { number, taken: taken as u8, first, second, ..Answer::default() }
 }
 
+/// The number of a framing error, and what it carries.
+pub fn carried(error: &CrsfStreamError) -> (u8, u8, u8) {
+    match *error {
+        CrsfStreamError::InvalidSync(b) => (ours::INVALID_SYNC, b, 0),
+        CrsfStreamError::InvalidPacketLength(l) => (ours::INVALID_PACKET_LENGTH, l, 0),
+        CrsfStreamError::InvalidCrc { calculated_crc, packet_crc } => (ours::INVALID_CRC, calculated_crc, packet_crc),
+        ref other => panic!("{other:?} is no framing error"),
+    }
+}
+
 impl<'a> Both<'a> {
-    fn new(bytes: &'a [u8], begin: &State, ops: &'a mut Vec<Op>, tally: &'a mut Tally) -> Both<'a> {
+    fn new(bytes: &'a [u8], begin: &Begin, ops: &'a mut Vec<Op>, tally: &'a mut Tally) -> Both<'a> {
         ops.clear();
-        Both { bytes, at: 0, held: 0, rust: CrsfParser::new(), state: *begin, ops, tally }
+        Both { bytes, at: 0, held: 0, position: begin.position(), rust: CrsfParser::new(), state: begin.state, lent: begin.lent, ops, tally }
     }
 
-    /// One call on both sides. Whether both ask for more.
-    fn call(&mut self, window: usize) -> Result<bool, Difference> {
+    /// How many bytes more there are positions for.
+    fn room(&self) -> u64 {
+        u64::MAX - self.position - self.held as u64
+    }
+
+    /// One call on both sides. Whether both ask for more, or ours refuses the piece because there are no positions for it.
+    pub fn call(&mut self, window: usize) -> Result<bool, Difference> {
         self.ops.push(Op::Call(window));
         let input = &self.bytes[self.at..self.bytes.len().min(self.at.saturating_add(window))];
-        let got = ours::next_raw_packet(&mut self.state, input);
+        let was = self.state;
+        let mut places = Places::NEW;
+        let got = ours::next_raw_packet(&mut self.state, input, &mut places.0[..self.lent]);
+        if self.room() < input.len() as u64 {
+            // By RULES 6 alone: the Rust would take it, and is not asked.
+            self.tally.refused[usize::from(ours::POSITION_RANGE)] += 1;
+            if (got, places, self.state) != (Answer::refusal(ours::POSITION_RANGE), Places::NEW, was) {
+                let (len, room, state) = (input.len(), self.room(), hex(&self.state));
+                return Err(Difference(format!("{len} bytes, positions for {room}: ours {got:?} at {places:?}, and its state is {state}")));
+            }
+            return Ok(true);
+        }
         let mut left = input;
         let told = self.rust.next_raw_packet(&mut left);
         let taken = input.len() - left.len();
         let mut dropped = 1;
         let stop = told.is_none();
-        let mut expected = match &told {
+        let expected = match &told {
             None => {
                 dropped = 0;
                 self.tally.more += 1;
@@ -89,38 +152,37 @@ impl<'a> Both<'a> {
                 }
                 expected
             }
-            Some(Err(CrsfStreamError::InvalidSync(b))) => {
-                self.tally.sync += 1;
-                as_answer(ours::INVALID_SYNC, taken, *b, 0)
+            Some(Err(error)) => {
+                let (number, first, second) = carried(error);
+                self.tally.refused[usize::from(number)] += 1;
+                as_answer(number, taken, first, second)
             }
-            Some(Err(CrsfStreamError::InvalidPacketLength(l))) => {
-                self.tally.length += 1;
-                as_answer(ours::INVALID_PACKET_LENGTH, taken, *l, 0)
-            }
-            Some(Err(CrsfStreamError::InvalidCrc { calculated_crc, packet_crc })) => {
-                self.tally.crc += 1;
-                as_answer(ours::INVALID_CRC, taken, *calculated_crc, *packet_crc)
-            }
-            Some(Err(other)) => return Err(Difference(format!("the Rust says {other:?}, which no framing does"))),
         };
-        expected.zero = 0;
-        if got != expected {
-            return Err(Difference(format!("the Rust {expected:?}, ours {got:?}")));
+        let began = if stop { Places::NEW } else { Places::told(self.lent, self.position) };
+        if (got, places) != (expected, began) {
+            return Err(Difference(format!("the Rust {expected:?} at {began:?}, ours {got:?} at {places:?}")));
         }
         self.at += taken;
         self.held = self.held + taken - dropped;
-        self.same_held()?;
+        self.position += dropped as u64;
+        self.same_state()?;
         Ok(stop)
     }
 
-    /// What the port holds is what the Rust has taken and not dropped.
-    fn same_held(&mut self) -> Result<(), Difference> {
-        let expected = &self.bytes[self.at - self.held..self.at];
+    /// What the port holds is what the Rust has taken and not dropped, and its position is where that begins.
+    fn same_state(&mut self) -> Result<(), Difference> {
+        let expected = self.held();
         let count = ours::held(&self.state);
         let (start, end) = (usize::from(self.state[0]), usize::from(self.state[1]));
-        let held = self.state[2..].get(start..end).unwrap_or(&[]);
+        let held = self.state[2..66].get(start..end).unwrap_or(&[]);
         if count != Answer::wrote(expected.len()) || held != expected {
             return Err(Difference(format!("the Rust holds {}, ours says {count:?} and holds {}", hex(expected), hex(held))));
+        }
+        let mut places = Places::NEW;
+        let got = ours::position(&self.state, &mut places.0[..1]);
+        let (position, written) = (self.position, position_in(&self.state));
+        if (got, places, written) != (Answer::wrote(1), Places::told(1, position), position) {
+            return Err(Difference(format!("the Rust is at {position}, ours says {got:?} and {places:?}, and {written} stands in its state")));
         }
         Ok(())
     }
@@ -134,24 +196,49 @@ impl<'a> Both<'a> {
             return Err(Difference(format!("a reset says {got:?}")));
         }
         self.held = 0;
-        self.same_held()
+        self.position = 0;
+        self.same_state()
+    }
+
+    fn held(&self) -> &'a [u8] {
+        &self.bytes[self.at - self.held..self.at]
     }
 
     fn save_and_restore(&mut self) -> Result<(), Difference> {
         self.ops.push(Op::Saved);
         self.tally.saved += 1;
-        let mut form = [0u8; 80];
-        let got = ours::save(&self.state, &mut form);
-        let len = self.held + 1;
-        if got != Answer::wrote(len) {
-            return Err(Difference(format!("a save of {} held bytes says {got:?}", self.held)));
+        let form = gen::saved_form(self.position, self.held());
+        let mut out = [0u8; 80];
+        let got = ours::save(&self.state, &mut out);
+        if got != Answer::wrote(form.len()) || out[..form.len()] != form {
+            return Err(Difference(format!("a save of {} says {got:?} and writes {}", hex(&form), hex(&out))));
         }
-        self.state = [0xC8; 66];
-        let got = ours::restore(&mut self.state, &form[..len]);
+        self.state = [0xC8; 74];
+        self.restore(&form)
+    }
+
+    /// A form of what is held, at another position, or the earlier form, which is at 0.
+    pub fn restored(&mut self, position: Option<u64>) -> Result<(), Difference> {
+        self.ops.push(Op::Restored(position));
+        self.tally.restored += 1;
+        let form = position.map_or_else(|| gen::earlier_form(self.held()), |position| gen::saved_form(position, self.held()));
+        if position.is_some_and(|position| position.checked_add(self.held as u64).is_none()) {
+            let got = ours::restore(&mut self.state, &form);
+            if got != Answer::refusal(ours::BAD_STATE) {
+                return Err(Difference(format!("a restore of {}, which ends past the last position, says {got:?}", hex(&form))));
+            }
+            return self.same_state();
+        }
+        self.position = position.unwrap_or(0);
+        self.restore(&form)
+    }
+
+    fn restore(&mut self, form: &[u8]) -> Result<(), Difference> {
+        let got = ours::restore(&mut self.state, form);
         if got != Answer::wrote(self.held) {
-            return Err(Difference(format!("a restore of {} says {got:?}", hex(&form[..len]))));
+            return Err(Difference(format!("a restore of {} says {got:?}", hex(form))));
         }
-        self.same_held()
+        self.same_state()
     }
 
     fn apply(&mut self, op: Op) -> Result<(), Difference> {
@@ -159,6 +246,7 @@ impl<'a> Both<'a> {
             Op::Call(window) => self.call(window).map(|_| ()),
             Op::Reset => self.reset(),
             Op::Saved => self.save_and_restore(),
+            Op::Restored(position) => self.restored(position),
         }
     }
 
@@ -170,7 +258,7 @@ impl<'a> Both<'a> {
 
     /// Pieces of that many bytes, and a call on nothing at the end.
     fn pieces(&mut self, size: usize) -> Result<(), Difference> {
-        let mut end = 0;
+        let mut end = self.at;
         while end < self.bytes.len() {
             end = self.bytes.len().min(end + size);
             self.piece(end)?;
@@ -190,9 +278,9 @@ impl<'a> Both<'a> {
     }
 
     /// Random pieces, each read until both ask for more.
-    fn random_pieces(&mut self, r: &mut Rng) -> Result<(), Difference> {
+    pub fn random_pieces(&mut self, r: &mut Rng) -> Result<(), Difference> {
         let most = r.one_of(&[1, 3, 8, 20, 64, 200]);
-        let mut end = 0;
+        let mut end = self.at;
         while end < self.bytes.len() {
             end = self.bytes.len().min(end + 1 + r.below(most));
             self.piece(end)?;
@@ -201,126 +289,152 @@ impl<'a> Both<'a> {
     }
 
     /// Calls on windows of any length, none among them, as they come: answers are not waited for. Resets and saves midway.
-    fn loosely(&mut self, r: &mut Rng, resets: bool) -> Result<(), Difference> {
+    pub fn loosely(&mut self, r: &mut Rng, resets: bool) -> Result<(), Difference> {
         let most = r.one_of(&[2, 5, 16, 40, 100, 1000]);
         loop {
             let stop = self.call(r.below(most))?;
-            if stop && self.at == self.bytes.len() {
-                return Ok(());
+            if stop && (self.at == self.bytes.len() || self.room() == 0) {
+                break;
             }
             match r.below(64) {
                 0 if resets => self.reset()?,
                 1 | 2 => self.save_and_restore()?,
+                3 => {
+                    let position = gen::position(r) >> 1;
+                    self.restored(r.one_of(&[None, Some(position)]))?
+                }
                 _ => (),
             }
         }
+        self.drain()
     }
-}
 
-/// Runs what a host did once more. Where it goes wrong, and how.
-fn rerun(bytes: &[u8], begin: &State, ops: &[Op]) -> Option<(usize, Difference)> {
-    let (mut done, mut tally) = (vec![], Tally::default());
-    let mut both = Both::new(bytes, begin, &mut done, &mut tally);
-    for (i, op) in ops.iter().enumerate() {
-        if let Err(d) = both.apply(*op) {
-            return Some((i, d));
+    /// Pieces about as long as there are positions for, until none is left or all is read. At the last position, what a host may do there; then a new
+    /// stream of the rest.
+    pub fn to_the_last(&mut self, r: &mut Rng) -> Result<(), Difference> {
+        while self.at < self.bytes.len() && self.room() > 0 {
+            let room = self.room().min(self.bytes.len() as u64) as usize;
+            let any = r.below(room + 1);
+            self.call(r.one_of(&[any, room - 1, room, room + 1, room + 2]))?;
         }
+        self.drain()?;
+        self.call(1)?;
+        self.save_and_restore()?;
+        self.call(usize::MAX)?;
+        self.reset()?;
+        self.random_pieces(r)
     }
-    None
+
+    /// Calls on nothing, until both ask for more.
+    pub fn drain(&mut self) -> Result<(), Difference> {
+        while !self.call(0)? {}
+        Ok(())
+    }
 }
 
-/// Takes away bytes and ops, and makes windows and bytes smaller, as long as something still differs.
-fn smallest(bytes: &[u8], begin: &State, ops: &[Op]) -> String {
-    let (mut bytes, mut ops) = (bytes.to_vec(), ops.to_vec());
-    let Some((mut at, mut difference)) = rerun(&bytes, begin, &ops) else {
+/// What a host did.
+#[derive(Clone, PartialEq)]
+struct Case {
+    begin: Begin,
+    bytes: Vec<u8>,
+    ops: Vec<Op>,
+}
+
+impl Case {
+    /// Does it once more. What differs, and the case up to there.
+    fn rerun(mut self) -> Option<(Case, Difference)> {
+        let (mut done, mut tally) = (vec![], Tally::default());
+        let mut both = Both::new(&self.bytes, &self.begin, &mut done, &mut tally);
+        let (last, difference) = self.ops.iter().enumerate().find_map(|(i, op)| Some((i, both.apply(*op).err()?)))?;
+        self.ops.truncate(last + 1);
+        Some((self, difference))
+    }
+}
+
+/// Takes away bytes and ops, and makes windows, positions and bytes smaller, as long as something still differs.
+fn smallest(case: Case) -> String {
+    let Some(mut found) = case.rerun() else {
         return "differs, and not when run again".to_string();
     };
+    fn attempt(found: &mut (Case, Difference), change: impl FnOnce(&mut Case)) -> bool {
+        let mut tried = found.0.clone();
+        change(&mut tried);
+        tried != found.0 && tried.rerun().map(|still| *found = still).is_some()
+    }
     loop {
-        ops.truncate(at + 1);
-        let before = (bytes.clone(), ops.clone());
-        let mut attempt = |b: &mut Vec<u8>, o: &mut Vec<Op>, tried: (Vec<u8>, Vec<Op>)| -> bool {
-            match rerun(&tried.0, begin, &tried.1) {
-                Some((i, d)) => {
-                    (*b, *o) = tried;
-                    o.truncate(i + 1);
-                    (at, difference) = (i, d);
-                    true
-                }
-                None => false,
-            }
-        };
-        let mut size = bytes.len().max(ops.len()).max(1);
+        let before = found.0.clone();
+        let mut size = before.bytes.len().max(before.ops.len()).max(1);
         while size > 0 {
             let mut i = 0;
-            while i < bytes.len() {
-                let mut b = bytes.clone();
-                b.drain(i..(i + size).min(bytes.len()));
-                let o = ops.clone();
-                if !attempt(&mut bytes, &mut ops, (b, o)) {
+            while i < found.0.bytes.len() {
+                if !attempt(&mut found, |c| drop(c.bytes.drain(i..(i + size).min(c.bytes.len())))) {
                     i += size;
                 }
             }
             let mut i = 0;
-            while i < ops.len() {
-                let mut o = ops.clone();
-                o.drain(i..(i + size).min(ops.len()));
-                let b = bytes.clone();
-                if !attempt(&mut bytes, &mut ops, (b, o)) {
+            while i < found.0.ops.len() {
+                if !attempt(&mut found, |c| drop(c.ops.drain(i..(i + size).min(c.ops.len())))) {
                     i += size;
                 }
             }
             size /= 2;
         }
-        for i in 0..ops.len() {
-            for less in [0, 1, 2, 4, bytes.len()] {
-                if let Some(Op::Call(w)) = ops.get(i).copied() {
-                    let mut o = ops.clone();
-                    o[i] = Op::Call(less);
-                    if less < w {
-                        let b = bytes.clone();
-                        attempt(&mut bytes, &mut ops, (b, o));
-                    }
+        for i in 0..found.0.ops.len() {
+            for less in [0, 1, 2, 4, found.0.bytes.len()] {
+                if matches!(found.0.ops.get(i), Some(Op::Call(window)) if less < *window) {
+                    attempt(&mut found, |c| c.ops[i] = Op::Call(less));
+                }
+            }
+            if let Some(Op::Restored(Some(position))) = found.0.ops.get(i).copied() {
+                for less in [0, position / 2] {
+                    attempt(&mut found, |c| c.ops[i] = Op::Restored(Some(less)));
                 }
             }
         }
-        for i in 0..bytes.len() {
+        for i in 0..found.0.bytes.len() {
             for less in [0x00, 0x02, 0xC8] {
-                let mut b = bytes.clone();
-                if less < b[i] {
-                    b[i] = less;
-                    let o = ops.clone();
-                    attempt(&mut bytes, &mut ops, (b, o));
+                if less < found.0.bytes[i] {
+                    attempt(&mut found, |c| c.bytes[i] = less);
                 }
             }
         }
-        if (&bytes, &ops) == (&before.0, &before.1) {
-            return format!("bytes {}, {ops:?}: at the last, {}", hex(&bytes), difference.0);
+        attempt(&mut found, |c| c.begin.state[66..].fill(0));
+        attempt(&mut found, |c| c.begin.lent = 1);
+        if found.0 == before {
+            let (Case { begin, bytes, ops }, difference) = found;
+            let from = format!("from position {}, {} places for positions", begin.position(), begin.lent);
+            return format!("bytes {}, {from}, {ops:?}: at the last, {}", hex(&bytes), difference.0);
         }
     }
 }
 
 /// Compares streams, and counts.
-struct Streams<'f> {
+pub struct Streams<'f> {
     family: &'f mut Family,
     tally: &'f mut Tally,
     ops: Vec<Op>,
-    rng: Rng,
+    pub rng: Rng,
 }
 
-impl Streams<'_> {
-    /// A state in which nothing is held, with any bytes in its places and any place for nothing.
-    fn begin(&mut self) -> State {
-        let mut state = [self.rng.one_of(&EDGES); 66];
+impl<'f> Streams<'f> {
+    pub fn new(family: &'f mut Family, tally: &'f mut Tally, rng: Rng) -> Streams<'f> {
+        Streams { family, tally, ops: vec![], rng }
+    }
+    /// A state in which nothing is held, with any bytes in its places and any place for nothing, at any position that leaves room for every stream.
+    fn begin(&mut self) -> Begin {
+        let mut state = [self.rng.one_of(&EDGES); 74];
         let at = self.rng.below(65) as u8;
         (state[0], state[1]) = (at, at);
-        state
+        let position = gen::position(&mut self.rng) >> 1;
+        state[66..].copy_from_slice(&position.to_be_bytes());
+        Begin { state, lent: self.rng.one_of(&[1, 1, 1, 0, 2, 3]) }
     }
-    fn compare(&mut self, bytes: &[u8], run: impl FnOnce(&mut Both<'_>) -> Result<(), Difference>) {
+    pub fn compare(&mut self, bytes: &[u8], run: impl FnOnce(&mut Both<'_>) -> Result<(), Difference>) {
         let begin = self.begin();
         let outcome = run(&mut Both::new(bytes, &begin, &mut self.ops, self.tally));
         self.family.compared(self.ops.len() as u64);
         if outcome.is_err() {
-            self.family.differs(|| smallest(bytes, &begin, &self.ops));
+            self.family.differs(|| smallest(Case { begin, bytes: bytes.to_vec(), ops: self.ops.clone() }));
         }
     }
     fn every_cut(&mut self, bytes: &[u8]) {
@@ -368,7 +482,7 @@ pub fn compare(report: &mut Report, seed: u64, random_bytes: u64) {
     let mut nth = 0;
     let mut run = |report: &mut Report, name: &'static str, each: &mut dyn FnMut(&mut Streams<'_>)| {
         nth += 1;
-        report.family(name, |family| each(&mut Streams { family, tally: &mut tally, ops: vec![], rng: Rng::new(seed.wrapping_add(nth << 32)) }));
+        report.family(name, |family| each(&mut Streams::new(family, &mut tally, Rng::new(seed.wrapping_add(nth << 32)))));
     };
     run(report, "framing: every string of 0 to 2 bytes, every cut", &mut |s| {
         for n in 0..=2 {
@@ -485,8 +599,5 @@ pub fn compare(report: &mut Report, seed: u64, random_bytes: u64) {
             s.rng = r;
         }
     });
-    println!(
-        "    of these: {} frames in the piece, {} among the held bytes, {} sync, {} length, {} crc, {} ask for more; {} resets, {} saves",
-        tally.in_piece, tally.in_held, tally.sync, tally.length, tally.crc, tally.more, tally.resets, tally.saved
-    );
+    tally.print();
 }

@@ -163,18 +163,41 @@ pub fn typical(r: &mut Rng, len: usize) -> Vec<u8> {
     s
 }
 
-/// An entry of a kit log (RULES 16), from the rules alone: seconds and length in groups of seven bits, lowest first, and the frame.
-pub fn log_entry(seconds: u32, frame: &[u8]) -> Vec<u8> {
-    let mut entry = vec![];
-    for mut number in [seconds, frame.len() as u32] {
-        while number >= 0x80 {
-            entry.push(number as u8 | 0x80);
-            number >>= 7;
-        }
-        entry.push(number as u8);
+/// A position: 0, any, one below a power of two, which a stream passes, or one of the last.
+pub fn position(r: &mut Rng) -> u64 {
+    let near = r.below(200) as u64;
+    match r.below(4) {
+        0 => 0,
+        1 => r.next() >> r.below(64),
+        2 => (1_u64 << r.below(64)).wrapping_sub(near),
+        _ => u64::MAX - near,
     }
-    entry.extend_from_slice(frame);
-    entry
+}
+
+/// A number in groups of seven bits, lowest first (RULES 9).
+pub fn groups(mut number: u64) -> Vec<u8> {
+    let mut all = vec![];
+    while number >= 0x80 {
+        all.push(number as u8 | 0x80);
+        number >>= 7;
+    }
+    all.push(number as u8);
+    all
+}
+
+/// The saved form of a parser (RULES 9), from the rules alone.
+pub fn saved_form(position: u64, held: &[u8]) -> Vec<u8> {
+    [&[0x40], &groups(position)[..], &earlier_form(held)].concat()
+}
+
+/// The form that was saved before there were positions, and is restored at 0.
+pub fn earlier_form(held: &[u8]) -> Vec<u8> {
+    [&[held.len() as u8], held].concat()
+}
+
+/// An entry of a kit log (RULES 16), from the rules alone: seconds and length in groups of seven bits, and the frame.
+pub fn log_entry(seconds: u32, frame: &[u8]) -> Vec<u8> {
+    [&groups(seconds.into())[..], &groups(frame.len() as u64), frame].concat()
 }
 
 /// Seconds since the entry before, as in a log that is written while frames come: a few, and now and then up to hours.

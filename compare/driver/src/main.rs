@@ -8,6 +8,7 @@ mod listing;
 mod logs;
 mod medians;
 mod ours;
+mod positions;
 mod queries;
 mod record;
 mod records;
@@ -111,6 +112,7 @@ fn main() {
     let differences = o.root.join("docs/DIFFERENCES.md");
     let mut report = Report::new(std::fs::read_to_string(&differences).unwrap_or_else(|e| panic!("{}: {e}", differences.display())));
     framing::compare(&mut report, o.seed, o.bytes);
+    positions::compare(&mut report, o.seed);
     let random = 20_000.max(o.bytes / 100);
     records::compare(&mut report, o.seed, random);
     bursts::compare(&mut report, o.seed, random);

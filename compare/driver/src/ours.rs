@@ -28,10 +28,34 @@ pub const BAD_ADDRESS: u8 = 7;
 pub const BAD_STATE: u8 = 8;
 pub const INVALID_FRAME: u8 = 10;
 pub const CAPACITY_RANGE: u8 = 11;
+pub const POSITION_RANGE: u8 = 12;
 pub const MORE: u8 = 255;
 
-/// Start, end, and 64 places.
-pub type State = [u8; 66];
+/// Start, end, 64 places, and the position, highest byte first.
+pub type State = [u8; 74];
+
+/// Places for positions, of which some are lent.
+#[derive(Clone, Copy, PartialEq)]
+pub struct Places(pub [u64; 3]);
+
+impl Places {
+    /// What stands in a place that nothing was put into.
+    const UNTOUCHED: u64 = 0x7777_7777_7777_7777;
+    pub const NEW: Places = Places([Places::UNTOUCHED; 3]);
+    /// With so many lent and a position told.
+    pub fn told(lent: usize, position: u64) -> Places {
+        let mut places = Places::NEW;
+        places.0[..lent.min(1)].fill(position);
+        places
+    }
+}
+
+impl fmt::Debug for Places {
+    fn fmt(&self, f: &mut fmt::Formatter<'_>) -> fmt::Result {
+        let each = |place: &u64| if *place == Places::UNTOUCHED { "-".to_string() } else { place.to_string() };
+        write!(f, "{}", self.0.each_ref().map(each).join(" "))
+    }
+}
 
 /// Of a log's reader: eleven bytes, and 64 places.
 pub type LogState = [u8; 75];
@@ -117,7 +141,9 @@ macro_rules! entries {
 }
 
 entries! {
-    fn crsf_next_raw_packet(state: *mut u8, state_len: usize, input: *const u8, input_len: usize) -> Answer;
+    fn crsf_next_raw_packet(
+        state: *mut u8, state_len: usize, input: *const u8, input_len: usize, position: *mut u64, position_len: usize,
+    ) -> Answer;
     fn crsf_reset(state: *mut u8, state_len: usize) -> Answer;
     fn crsf_save(state: *const u8, state_len: usize, out: *mut u8, out_len: usize) -> Answer;
     fn crsf_restore(state: *mut u8, state_len: usize, form: *const u8, form_len: usize) -> Answer;
@@ -154,6 +180,7 @@ entries! {
     fn crsf_pack_altitude(decimetres: i32) -> u16;
     fn crsf_baro_decimetres(packed: u16) -> i32;
     fn crsf_gps_metres(raw: u16) -> i32;
+    new fn crsf_position(state: *const u8, state_len: usize, position: *mut u64, position_len: usize) -> Answer;
     new fn crsf_log_next(state: *mut u8, state_len: usize, input: *const u8, input_len: usize, seconds: *mut u32) -> Answer;
     new fn crsf_log_end(state: *mut u8, state_len: usize) -> Answer;
     new fn crsf_log_start(out: *mut u8, out_len: usize) -> Answer;
@@ -186,12 +213,15 @@ macro_rules! lent {
 }
 
 lent! {
-    fn next_raw_packet(state: &mut [u8], input: &[u8]) -> Answer =
-        crsf_next_raw_packet(state.as_mut_ptr(), state.len(), input.as_ptr(), input.len());
+    /// Where the answer began goes to the first of `position`, if there is one.
+    fn next_raw_packet(state: &mut [u8], input: &[u8], position: &mut [u64]) -> Answer =
+        crsf_next_raw_packet(state.as_mut_ptr(), state.len(), input.as_ptr(), input.len(), position.as_mut_ptr(), position.len());
     fn reset(state: &mut [u8]) -> Answer = crsf_reset(state.as_mut_ptr(), state.len());
     fn save(state: &[u8], out: &mut [u8]) -> Answer = crsf_save(state.as_ptr(), state.len(), out.as_mut_ptr(), out.len());
     fn restore(state: &mut [u8], form: &[u8]) -> Answer = crsf_restore(state.as_mut_ptr(), state.len(), form.as_ptr(), form.len());
     fn held(state: &[u8]) -> Answer = crsf_held(state.as_ptr(), state.len());
+    /// The parser's own.
+    fn position(state: &[u8], position: &mut [u64]) -> Answer = crsf_position(state.as_ptr(), state.len(), position.as_mut_ptr(), position.len());
     fn is_address(byte: u8) -> bool = crsf_is_address(byte);
     /// 0 unlisted, 1 short, 2 extended.
     fn header_of(packet_type: u8) -> u8 = crsf_header_of(packet_type);

@@ -19,12 +19,13 @@
 //! id as its first field and a value in each other one; read, the id stands in the answer and c has the values. Temperatures and voltages without a
 //! value, and batteries with a capacity of 2^24 or more, are not written (`Record::is_left_out`), and RPM of 3 bytes is not read
 //! (`Record::is_left_out_read`).
+use crate::framing;
 use crate::gen::{self, Rng, ADDRESSES, EDGES};
 use crate::ours::{self, Answer};
 use crate::queries::{self, CHECK};
 use crate::records::{number_of, Record, RECORDS};
 use uf_crsf::packets::BaroAltitude;
-use uf_crsf::{CrsfParser, CrsfStreamError, PacketAddress};
+use uf_crsf::{CrsfParser, PacketAddress};
 
 const PAGE: usize = 4096;
 
@@ -84,12 +85,7 @@ fn stream(pages: &mut Pages, r: &mut Rng, bytes: &[u8]) {
             }
             Some(Err(e)) => {
                 held -= 1;
-                (a.number, a.first, a.second) = match e {
-                    CrsfStreamError::InvalidSync(b) => (ours::INVALID_SYNC, b, 0),
-                    CrsfStreamError::InvalidPacketLength(l) => (ours::INVALID_PACKET_LENGTH, l, 0),
-                    CrsfStreamError::InvalidCrc { calculated_crc, packet_crc } => (ours::INVALID_CRC, calculated_crc, packet_crc),
-                    other => panic!("{other:?} is no framing error"),
-                };
+                (a.number, a.first, a.second) = framing::carried(&e);
             }
         }
         let after = if frame.is_empty() { &bytes[at - held..at] } else { &frame[..] };
