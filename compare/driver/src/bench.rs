@@ -659,6 +659,10 @@ pub fn once(listing: Option<Listing>) {
     stream("noise in 16-byte pieces", "byte", noise.len(), noise, 16);
     stream("runs of C8, contiguous", "byte", STREAM / 2, vec![0xC8; STREAM / 2].leak(), WHOLE);
     stream("each fourth frame damaged, contiguous", "byte", damaged.len(), damaged.leak(), WHOLE);
+    for (name, unit, count, bytes) in [(CONTIGUOUS, "frame", frames.len(), typical), ("noise, contiguous", "byte", noise.len(), noise)] {
+        let name = format!("{name}; no place for positions");
+        rows.add(&name, unit, count, move || stream_rust(next_rust(), bytes, WHOLE), move |e| stream_ours::<0>(e, bytes, WHOLE));
+    }
     log_rows(&mut rows, typical, &entries);
     rows.add(CHECKS, "frame", frames.len(), || checks_rust(frames), |e| checks_ours(e, frames));
     rows.add("check byte of a long string", "byte", noise.len(), || checks_rust(&[noise]), |e| checks_ours(e, &[noise]));
