@@ -1,4 +1,4 @@
-//! The two listing programs, the Rust's (rust_list.rs) and the port's, run on the same bytes.
+//! The listing programs, the Rust's (rust_list.rs) and the port's, without positions and with them, run on the same bytes.
 use crate::gen::{self, Rng};
 use crate::report::Report;
 use std::fs::{self, File};
@@ -10,7 +10,9 @@ pub struct Listing {
     pub rust: Vec<String>,
     /// The earlier one, where it is timed.
     pub before: Option<Vec<String>>,
-    pub ours: Vec<String>,
+    pub ours: Option<Vec<String>>,
+    /// The one with positions.
+    pub ours_where: Option<Vec<String>>,
     pub file: PathBuf,
 }
 
@@ -45,44 +47,71 @@ impl Listing {
         Run { seconds, lines }
     }
 
-    /// The Rust's, the one before where there is one, and ours.
-    pub fn run(&self, stream: &[u8]) -> Vec<Run> {
+    /// What each makes of a stream.
+    fn each<'c>(&self, stream: &[u8], commands: impl Iterator<Item = &'c Vec<String>>) -> Vec<Run> {
         fs::write(&self.file, stream).expect("the stream can be written");
-        let commands = std::iter::once(&self.rust).chain(&self.before).chain(std::iter::once(&self.ours));
         let runs = commands.map(|command| self.list(command, &self.file.with_extension("listing"))).collect();
         let _ = fs::remove_file(&self.file);
         runs
     }
 
+    /// The Rust's, the one before where there is one, and ours.
+    pub fn run(&self, stream: &[u8]) -> Vec<Run> {
+        self.each(stream, std::iter::once(&self.rust).chain(&self.before).chain(&self.ours))
+    }
+
     /// Compares the lines.
     pub fn compare(&self, report: &mut Report, seed: u64) {
-        report.family("listing: whole programs, every line", |family| {
-            let mut r = Rng::new(seed ^ 0x1157);
-            let mut noise = vec![0; 300_000];
-            r.fill(&mut noise);
-            let streams = [
-                vec![],
-                vec![0xC8, 2, 0, 0, 0x55, 0xC8, 2, 0],
-                noise,
-                vec![0xC8; 100_000],
-                gen::stream(&mut r, 1_000_000),
-                gen::typical(&mut r, 1_000_000),
-            ];
-            for stream in streams {
-                let runs = self.run(&stream);
-                let (rust, ours) = (String::from_utf8_lossy(&runs[0].lines), String::from_utf8_lossy(&runs[runs.len() - 1].lines));
-                let mut lines = (rust.split('\n'), ours.split('\n'));
-                let mut n = 0;
-                loop {
-                    match (lines.0.next(), lines.1.next()) {
-                        (None, None) => break,
-                        (one, two) => {
-                            n += 1;
-                            family.same(one, two, || format!("line {n} of a stream of {} bytes", stream.len()));
+        let mut r = Rng::new(seed ^ 0x1157);
+        let mut noise = vec![0; 300_000];
+        r.fill(&mut noise);
+        let streams = [
+            vec![],
+            vec![0xC8, 2, 0, 0, 0x55, 0xC8, 2, 0],
+            noise,
+            vec![0xC8; 100_000],
+            gen::stream(&mut r, 1_000_000),
+            gen::typical(&mut r, 1_000_000),
+        ];
+        let programs: [(_, _, _, fn(&str) -> String); 2] = [
+            ("listing: whole programs, every line", "list", &self.ours, str::to_string),
+            ("listing with positions: whole programs, every line", "list_where", &self.ours_where, with_positions),
+        ];
+        for (name, program, command, of_rust) in programs {
+            let Some(command) = command else {
+                report.left_out(name, &format!("there is no program `{program}` (rt check {program})"));
+                continue;
+            };
+            report.family(name, |family| {
+                for stream in &streams {
+                    let runs = self.each(stream, [&self.rust, command].into_iter());
+                    let [rust, ours] = [&runs[0], &runs[1]].map(|run| String::from_utf8_lossy(&run.lines));
+                    let rust = of_rust(&rust);
+                    let mut lines = (rust.split('\n'), ours.split('\n'));
+                    let mut n = 0;
+                    loop {
+                        match (lines.0.next(), lines.1.next()) {
+                            (None, None) => break,
+                            (one, two) => {
+                                n += 1;
+                                family.same(one, two, || format!("line {n} of a stream of {} bytes", stream.len()));
+                            }
                         }
                     }
                 }
-            }
-        });
+            });
+        }
     }
+}
+
+/// The Rust's lines, each behind the number of bytes that those before it dropped: a frame its own, which are 4 more than its payload, an error one.
+fn with_positions(lines: &str) -> String {
+    let mut position = 0;
+    let each = lines.lines().map(|line| {
+        let placed = format!("{position} {line}\n");
+        let payload = line.strip_prefix("frame").and_then(|items| items.rsplit(' ').next());
+        position += payload.map_or(1, |length| 4 + length.parse::<u64>().expect("a frame's line ends with its payload's length"));
+        placed
+    });
+    each.collect()
 }

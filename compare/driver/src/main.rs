@@ -32,6 +32,8 @@ struct Options {
     emulator: Vec<String>,
     /// The port's listing program.
     list: Option<String>,
+    /// The one with positions.
+    list_where: Option<String>,
     /// An earlier one, to be timed too.
     before_list: Option<String>,
 }
@@ -52,6 +54,7 @@ fn options() -> Options {
         record: None,
         emulator: vec![],
         list: None,
+        list_where: None,
         before_list: None,
     };
     let mut words = std::env::args().skip(1);
@@ -69,6 +72,7 @@ fn options() -> Options {
             "--record" => o.record = Some(next()),
             "--emulator" => o.emulator = vec![next()],
             "--list" => o.list = Some(next()),
+            "--where" => o.list_where = Some(next()),
             "--before-list" => o.before_list = Some(next()),
             other => panic!("{other}? usage: {USAGE}"),
         }
@@ -76,16 +80,17 @@ fn options() -> Options {
     o
 }
 
-/// Both listing programs, where the port's is at hand.
-fn listing(o: &Options) -> Option<Listing> {
+/// The listing programs, those of the port as far as they are at hand.
+fn listing(o: &Options) -> Listing {
     let command = |program: String| [o.emulator.clone(), vec![program]].concat();
-    let beside = std::env::current_exe().ok()?.with_file_name("rust_list");
-    Some(Listing {
-        rust: command(beside.to_str()?.to_string()),
+    let beside = std::env::current_exe().expect("this program has a name").with_file_name("rust_list");
+    Listing {
+        rust: command(beside.to_string_lossy().into_owned()),
         before: o.before_list.clone().map(command),
-        ours: command(o.list.clone()?),
+        ours: o.list.clone().map(command),
+        ours_where: o.list_where.clone().map(command),
         file: o.root.join("target/compare/stream"),
-    })
+    }
 }
 
 /// The command that makes one run of the timing.
@@ -118,9 +123,6 @@ fn main() {
     bursts::compare(&mut report, o.seed, random);
     queries::compare(&mut report, o.seed);
     logs::compare(&mut report, o.seed);
-    match listing(&o) {
-        Some(listing) => listing.compare(&mut report, o.seed),
-        None => report.left_out("listing: whole programs, every line", "there is no program `list` (rt check list)"),
-    }
+    listing(&o).compare(&mut report, o.seed);
     std::process::exit(report.finish());
 }
