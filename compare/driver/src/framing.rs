@@ -113,7 +113,7 @@ impl<'a> Both<'a> {
         let mut places = Places::NEW;
         let got = ours::next_raw_packet(&mut self.state, input, &mut places.0[..self.lent]);
         if self.room() < input.len() as u64 {
-            // By RULES 6 alone: the Rust would take it, and is not asked.
+            // By RULES 18 alone: the Rust would take it, and is not asked.
             self.tally.refused[usize::from(ours::POSITION_RANGE)] += 1;
             if (got, places, self.state) != (Answer::refusal(ours::POSITION_RANGE), Places::NEW, was) {
                 let (len, room, state) = (input.len(), self.room(), hex(&self.state));
@@ -217,11 +217,11 @@ impl<'a> Both<'a> {
         self.restore(&form)
     }
 
-    /// A form of what is held, at another position, or the earlier form, which is at 0.
+    /// A form of what is held, at another position, or the older form, which is at 0.
     pub fn restored(&mut self, position: Option<u64>) -> Result<(), Difference> {
         self.ops.push(Op::Restored(position));
         self.tally.restored += 1;
-        let form = position.map_or_else(|| gen::earlier_form(self.held()), |position| gen::saved_form(position, self.held()));
+        let form = position.map_or_else(|| gen::older_form(self.held()), |position| gen::saved_form(position, self.held()));
         if position.is_some_and(|position| position.checked_add(self.held as u64).is_none()) {
             let got = ours::restore(&mut self.state, &form);
             if got != Answer::refusal(ours::BAD_STATE) {

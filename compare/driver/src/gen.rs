@@ -187,11 +187,11 @@ pub fn groups(mut number: u64) -> Vec<u8> {
 
 /// The saved form of a parser (RULES 9), from the rules alone.
 pub fn saved_form(position: u64, held: &[u8]) -> Vec<u8> {
-    [&[0x40], &groups(position)[..], &earlier_form(held)].concat()
+    [&[0x40], &groups(position)[..], &older_form(held)].concat()
 }
 
 /// The form that was saved before there were positions, and is restored at 0.
-pub fn earlier_form(held: &[u8]) -> Vec<u8> {
+pub fn older_form(held: &[u8]) -> Vec<u8> {
     [&[held.len() as u8], held].concat()
 }
 

@@ -19,13 +19,13 @@ pub fn compare(report: &mut Report, seed: u64) {
         from_any(&mut s);
         r = s.rng;
     });
-    report.family("positions: pieces that just fit, by RULES 6 those that don't", |family| {
+    report.family("positions: pieces that just fit, by RULES 18 those that don't", |family| {
         let mut s = Streams::new(family, &mut tally, r.clone());
         just_fit(&mut s);
         r = s.rng;
     });
     tally.print();
-    report.family("states of any bytes: the Rust's reading, by RULES 6, 9, 14", |f| any_states(f, &mut r));
+    report.family("states of any bytes: the Rust's reading, by RULES 6, 9, 14, 18", |f| any_states(f, &mut r));
     report.family("states of other lengths: by RULES 14 alone", |f| other_lengths(f, &mut r));
     report.family("forms saved, into every room: by RULES 9 alone", |f| saved(f, &mut r));
     report.family("forms restored, right and malformed: by RULES 9 alone", |f| restored(f, &mut r));
@@ -199,7 +199,7 @@ fn save(f: &mut Family, state: &State, room: usize) {
 
 /// The position and the held bytes of a form, where it is well formed.
 fn form_parts(form: &[u8]) -> Option<(u64, &[u8])> {
-    let (position, earlier) = match form.split_first()? {
+    let (position, older) = match form.split_first()? {
         (0x40, rest) => {
             let groups = &rest[..=rest.iter().position(|byte| *byte < 0x80)?];
             let is_shortest = groups.len() == 1 || groups.last() != Some(&0);
@@ -208,7 +208,7 @@ fn form_parts(form: &[u8]) -> Option<(u64, &[u8])> {
         }
         _ => (0, form),
     };
-    let (&count, held) = earlier.split_first()?;
+    let (&count, held) = older.split_first()?;
     (usize::from(count) == held.len() && held.len() <= HELD && fit(position, held.len())).then_some((position, held))
 }
 
@@ -348,7 +348,7 @@ fn restored(f: &mut Family, r: &mut Rng) {
             let form = gen::saved_form(position, &held);
             (0..=form.len()).for_each(|cut| restore(f, &old, &form[..cut]));
             restore(f, &old, &[&form[..], &[0]].concat());
-            restore(f, &old, &gen::earlier_form(&held));
+            restore(f, &old, &gen::older_form(&held));
             // The count one too low, too high, and in two groups.
             for other in [vec![count.wrapping_sub(1) as u8], vec![count as u8 + 1], vec![count as u8 | 0x80], vec![count as u8 | 0x80, 0]] {
                 restore(f, &old, &[&[0x40], &groups[..], &other, &held].concat());
@@ -359,7 +359,7 @@ fn restored(f: &mut Family, r: &mut Rng) {
                 longer[groups.len() - 1] |= 0x80;
                 longer.resize(more - 1, 0x80);
                 longer.push(0);
-                restore(f, &old, &[&[0x40], &longer[..], &gen::earlier_form(&held)].concat());
+                restore(f, &old, &[&[0x40], &longer[..], &gen::older_form(&held)].concat());
             }
             for first in [0x00, 0x3F, 0x41, 0xC0] {
                 restore(f, &old, &[&[first], &form[1..]].concat());
@@ -370,7 +370,7 @@ fn restored(f: &mut Family, r: &mut Rng) {
     for (fill, tenth) in [0x80, 0x81, 0xC0, 0xFE, 0xFF].into_iter().flat_map(|fill| (0..=255).map(move |tenth| (fill, tenth))) {
         for behind in [&[][..], &[0], &[1], &[2], &[0x80, 0], &[0x81, 0], &[0x80, 0x80, 0], &[0xFF]] {
             for held in [&[][..], &[0xC8], &[0xC8; 63]] {
-                restore(f, &old, &[&[0x40], &[fill; 9][..], &[tenth], behind, &gen::earlier_form(held)].concat());
+                restore(f, &old, &[&[0x40], &[fill; 9][..], &[tenth], behind, &gen::older_form(held)].concat());
             }
         }
     }
@@ -384,7 +384,7 @@ fn restored(f: &mut Family, r: &mut Rng) {
         r.fill(&mut old);
         let mut held = vec![0; r.below(HELD + 1)];
         any_bytes(r, &mut held);
-        let form = if r.below(4) == 0 { gen::earlier_form(&held) } else { gen::saved_form(gen::position(r), &held) };
+        let form = if r.below(4) == 0 { gen::older_form(&held) } else { gen::saved_form(gen::position(r), &held) };
         let form = if r.below(2) == 0 { form } else { gen::damaged(r, &form) };
         restore(f, &old, &form);
     }
