@@ -93,8 +93,8 @@ enum {
     CRSF_CHANNEL_RANGE = 6,          /* first: the index of the first channel above 2047, 0 of a single one; of a burst, first: the set that has
                                       * it, second: its index in that set. Nothing was written */
     CRSF_BAD_ADDRESS = 7,            /* a destination that is not an address. Nothing was written */
-    CRSF_BAD_STATE = 8,              /* not a valid state, or a malformed saved form; at a save 64 held bytes, or a position behind them
-                                      * that is above 2^64 - 1. Nothing was taken or changed */
+    CRSF_BAD_STATE = 8,              /* not a valid state, or a malformed saved form; at a save 64 held bytes; at a save or a restore a
+                                      * position behind the held bytes that is above 2^64 - 1. Nothing was taken or changed */
     CRSF_INVALID_LOG = 9,            /* of a log: a malformed number, a first number other than 1, an end inside an entry or before the 1, a byte
                                       * behind the end */
     CRSF_INVALID_FRAME = 10,         /* of a log: a length that is not 4 to 64, or bytes that are not one whole valid frame */

@@ -15,7 +15,7 @@ use Rattle.reading.specs.Call.{droppedBy, call}
 use Rattle.reading.specs.History.{answered}
 use Rattle.reading.specs.Positions.{greatest, behind}
 use Rattle.reading.proofs.Positions.{behind-call}
-use Rattle.stream.specs.Step.{isSpan, Moves}
+use Rattle.stream.specs.Step.{Moves}
 use Rattle.stream.specs.declared.step.Reply.the-variants.{Refused}
 use Rattle.stream.specs.declared.step.Replied.{Replied}
 use Rattle.numbered.proofs.Within.{within}
@@ -25,7 +25,7 @@ use Rattle.host_state.specs.Step.{movedIn, PlacesStep, canNumber}
 use Rattle.host_state.proofs.States.{has-size, state-size, state-span, places-count}
 use Rattle.host_state.proofs.Steps.{Follows, stays-there, goes-there, wrong-size-steps, wrong-span-steps, beyond-steps, state-steps}
 use Rattle.host_answer.specs.declared.reply.Told.{Told}
-use Rattle.host_answer.specs.Answer.{packed, answerRefusal, inBytes}
+use Rattle.host_answer.specs.Answer.{packed, answerRefusal}
 use Rattle.host_answer.specs.Reply.{answerReply, droppedIn, toldBy, saysWhere, told, Calls}
 use Rattle.host_answer.proofs.Fits.{in-bytes, call-fits}
 use Rattle.host_answer.proofs.Dropped.{dropped-is, none-told, where-told}

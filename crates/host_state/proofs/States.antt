@@ -2,15 +2,13 @@
 -- Assumes nothing.
 use mathlib.Core.Path.{_≡_, refl, sym, ap, ap₂, _∙_}
 use mathlib.Core.Bool.{Bool, true, false, not, and-eq-true-iff}
-use mathlib.Core.List.{List, [], _∷_, _++_, append-nil, append-assoc}
+use mathlib.Core.List.{List, _∷_, _++_, append-nil}
 use Prim.Native.Nat.{ℕ, _+_, _-_, _^_, _≤_, _<_}
 use native.Mathlib.Nat.{mod-eq-of-lt}
 use native.Mathlib.Omega.{arith}
 use borrow.Author.Tests.{eqb-true, eq-eqb, not-true, not-false}
-use lib.Dec.{lit<}
-use lib.ListN.{length, take, drop, set, length-append, length-drop, length-set, drop-of-length-le, take-append-drop}
-use lib.Seq.{take-at, drop-at, length-take-le, take-all, take-take, drop-drop}
-use Rattle.base.specs.Bytes.{Bytes}
+use lib.ListN.{length, take, drop, set, length-append, length-drop, drop-of-length-le, take-append-drop}
+use lib.Seq.{take-at, drop-at, take-all, take-take, drop-drop}
 use Rattle.base.specs.Parts.{part, pasted, placed}
 use Rattle.base.proofs.Parts.{length-part, drop-take, placed-fits}
 use Rattle.base.proofs.Tests.{not-as}

@@ -2,7 +2,7 @@
 -- Assumes nothing.
 use mathlib.Core.Path.{_≡_, refl, sym, ap, ap₂, _∙_, subst}
 use mathlib.Core.Bool.{Bool, true, false, true≢false, _&&_, not, and-eq-true-iff}
-use mathlib.Core.List.{List, _∷_, _++_}
+use mathlib.Core.List.{List}
 use Prim.Native.Nat.{ℕ, _-_, _≤_, _<_}
 use native.Mathlib.Omega.{arith}
 use borrow.Author.Tests.{not-true, not-false}
@@ -21,7 +21,6 @@ use Rattle.stream.specs.declared.step.Reply.the-variants.{Refused}
 use Rattle.stream.specs.Step.{isSpan, Steps}
 use Rattle.stream.specs.declared.step.Moved.{Moved}
 use Rattle.stream.specs.declared.step.Replied.{Replied}
-use Rattle.numbered.specs.Step.{StepsAt}
 use Rattle.numbered.proofs.Within.{is-within}
 use Rattle.numbered.proofs.Steps.{refused-at, beyond-at, moved-at}
 use Rattle.host_state.specs.State.{size, positionAt, stateOf, startIn, endIn, placesIn, positionIn, heldBy, hasSize, isState}

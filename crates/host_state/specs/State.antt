@@ -5,7 +5,7 @@ use Prim.Native.Nat.{ℕ, _+_}
 use mathlib.Core.Bool.{Bool, _&&_}
 use mathlib.Core.List.{List, _∷_, _++_}
 use lib.Dec.{eqb}
-use lib.ListN.{length, getD, drop}
+use lib.ListN.{length, getD}
 use Rattle.base.specs.Parts.{part}
 use Rattle.numbers.specs.BigEndian.{beOf, bytesOf}
 use Rattle.reading.specs.Reading.{limit}

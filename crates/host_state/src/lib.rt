@@ -37,7 +37,7 @@ pub const POSITION: usize = PLACES + LIMIT;
 
 pub const SIZE: usize = POSITION + 8;
 
-// Positions up to this one are far from the end.
+// 2^63 - 65: up to this position no input can reach past the last one.
 const NEAR: u64 = 9_223_372_036_854_775_743;
 
 // Whether these are as many bytes as a state has.
@@ -80,7 +80,8 @@ fn count(state: &[u8]) -> usize
     if start <= end { end - start } else { 0 }
 }
 
-// A valid state, and input that would be numbered past 2^64 - 1. Up to NEAR no input is: a slice has fewer than 2^63 bytes, and a state holds 64 at most.
+// A valid state, and input behind which its position would be above 2^64 - 1. Up to NEAR none is: a slice has fewer than 2^63 bytes, and a state holds 64
+// at most.
 pub fn is_beyond(state: &[u8], input: &[u8]) -> bool
     ensures { λ r. ⌜ r ≡ isBeyond (now (state .entry)) (now (input .entry)) ⌝ }
 {

@@ -7,7 +7,7 @@ use native.Mathlib.Nat.{add-assoc}
 use borrow.Author.Tests.{lt-ltb, le-ltb}
 use lib.ListN.{length, drop}
 use Rattle.reading.specs.Answer.{Answer, drops}
-use Rattle.reading.specs.Reading.{First, stop, says, first, Reading, reading}
+use Rattle.reading.specs.Reading.{stop, says, first, Reading, reading}
 use Rattle.reading.specs.Call.{droppedBy, call}
 use Rattle.reading.proofs.Reading as read
 use Rattle.reading.proofs.Call.{answers-first, rest}

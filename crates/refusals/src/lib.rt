@@ -23,7 +23,7 @@ pub enum Refusal {
     // As ChannelRange, of several sets: the first set that has such a channel, and its place there. Its two numbers are as narrow as they are for the
     // machine code's sake (docs/SPEED.md).
     SetChannelRange { set: u16, channel: u16 },
-    // A stream whose bytes would be numbered past 2^64 - 1.
+    // Input behind which the position would be above 2^64 - 1.
     PositionRange,
 }
 

@@ -6,8 +6,8 @@ use mathlib.Core.List.{List, [], _∷_, _++_}
 use Prim.Native.Nat.{ℕ, _+_, _-_, _≤_}
 use native.Mathlib.Nat.{zero-add}
 use native.Mathlib.Omega.{arith}
-use borrow.Author.Tests.{eqb-true, le-leb, leb-true, leb-false}
-use lib.ListN.{length, getD, take, drop, set, length-append, length-drop, length-set, drop-of-length-le}
+use borrow.Author.Tests.{eqb-true, leb-true, leb-false}
+use lib.ListN.{length, take, drop, set, length-append, length-drop, length-set, drop-of-length-le}
 use lib.Seq.{take-all, drop-drop}
 use Rattle.base.specs.Parts.{fitsIn, pasted}
 use Rattle.base.proofs.Parts.{length-pasted, pasted-append, set-pasted, cutOut, around, put-there}

@@ -16,8 +16,8 @@ pub enum CrsfStreamError {
         /// What it is.
         carried: u8,
     },
-    /// 8: the bytes are not a valid state, a saved form is malformed, or at a save 64 bytes are held or the position behind them is above 2^64 - 1.
-    /// Nothing is changed.
+    /// 8: the bytes are not a valid state, a saved form is malformed, at a save 64 bytes are held, or at a save or a restore the position behind the held
+    /// bytes is above 2^64 - 1. Nothing is changed.
     BadState,
     /// 12: the position behind the held bytes and the input would be above 2^64 - 1. Nothing is taken or changed, so that the same call gives it again;
     /// a shorter input may still be taken.

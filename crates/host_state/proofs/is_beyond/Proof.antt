@@ -1,5 +1,4 @@
 -- `host_state::is_beyond` meets its contract. Assumes nothing.
-use mathlib.Core.Path.{_≡_}
 use native.Mathlib.Omega.{arith}
 use borrow.Author.Tests.{not-true, not-false}
 use Rattle.base.proofs.Tests.{not-as}

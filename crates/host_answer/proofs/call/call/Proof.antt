@@ -1,17 +1,11 @@
 -- `host_answer::call::call` meets its contract. Assumes nothing.
 use mathlib.Core.Path.{_≡_, refl, sym, ap, _∙_}
-use mathlib.Core.Bool.{true, false}
-use mathlib.Core.List.{List}
-use Prim.Native.Nat.{ℕ, _+_, _-_, _≤_}
+use mathlib.Core.Bool.{true}
 use native.Mathlib.Omega.{arith}
 use borrow.Author.Tests.{not-true, not-false}
-use lib.ListN.{length}
 use Rattle.base.proofs.Tests.{not-as}
-use Rattle.reading.specs.Reading.{limit}
-use Rattle.reading.specs.Positions.{greatest}
-use Rattle.host_state.specs.State.{size, startIn, endIn, placesIn, positionIn, hasSize, isState}
-use Rattle.host_state.specs.Step.{canNumber, PlacesStep}
-use Rattle.host_state.proofs.States.{sized}
+use Rattle.host_state.specs.State.{hasSize, isState}
+use Rattle.host_state.specs.Step.{canNumber}
 use Rattle.host_state.proofs.Steps.{can-number, cannot-number}
 use Rattle.host_answer.specs.declared.reply.Told.{Told}
 use Rattle.host_answer.proofs.Whole.{wrong-size-call, beyond-call, bad-call, more-call, answer-call, sum-fits}

@@ -1,5 +1,5 @@
 -- `host_answer::call::tell` meets its contract. Assumes nothing.
-use mathlib.Core.Path.{_≡_, sym, _∙_}
+use mathlib.Core.Path.{sym, _∙_}
 use mathlib.Core.List.{[], _∷_}
 use native.Mathlib.Omega.{arith}
 use Rattle.base.proofs.Parts.{set-pasted, placed-fits, placed-short}

@@ -2,12 +2,11 @@
 use mathlib.Core.Path.{_≡_, sym, ap, _∙_}
 use mathlib.Core.Bool.{true}
 use mathlib.Core.List.{List}
-use Prim.Native.Nat.{ℕ, _+_, _≤_}
+use Prim.Native.Nat.{ℕ}
 use native.Mathlib.Omega.{arith}
 use borrow.Author.Tests.{not-true, not-false}
-use lib.ListN.{length, take, drop}
+use lib.ListN.{length, drop}
 use Rattle.base.proofs.Tests.{not-as}
-use Rattle.groups.specs.declared.Front.{Front}
 use Rattle.groups.specs.Reading.{read, frontOf}
 use Rattle.reading.specs.Positions.{greatest}
 use Rattle.saved.specs.Form.{isMarked}
