@@ -385,6 +385,7 @@ typedef struct crsf_call {
     uint64_t position; /* crsf_next: where in the stream a frame or a refusal, 1 to 3, began; crsf_position_of: where the parser is; else 0 */
 } crsf_call;
 
+/* For whoever calls crsf_next_raw_packet: its answer with a position, as crsf_frame_bytes takes it. */
 static inline crsf_call crsf_call_of(crsf_answer answer, uint64_t position)
 {
     const crsf_call call = {answer.number, answer.taken, answer.in_state, answer.at, answer.len, answer.first, answer.second, answer.zero, position};

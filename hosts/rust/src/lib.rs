@@ -19,7 +19,7 @@ pub use packets::{
     write_packet_to_buffer, write_rc_channels_burst, BaroAltitude, Battery, CrsfPacket, Gps, GpsExtended, LinkStatistics, RcChannelsPacked, Rpm,
     Temp, Voltages, BURST_MAX, BURST_SETS_MAX,
 };
-pub use parser::{CrsfParser, RawCrsfPacket, SavedParser, StreamAnswer};
+pub use parser::{CrsfParser, RawCrsfPacket, SavedParser, StreamAnswer, SAVED_MAX};
 
 /// How a packet type's header is made.
 #[derive(Clone, Copy, Debug, PartialEq, Eq)]

@@ -3,7 +3,8 @@ use crate::entry::{self, Raw};
 use crate::error::CrsfStreamError;
 
 const STATE_SIZE: usize = 74;
-const SAVED_MAX: usize = 75;
+/// The most bytes that a saved form has: the mark, ten for the position, one for the count, 63 held.
+pub const SAVED_MAX: usize = 75;
 
 /// Cuts a byte stream, in pieces of any size, into frames.
 #[derive(Clone, Debug, PartialEq, Eq)]
@@ -66,12 +67,15 @@ impl CrsfParser {
     /// With `PositionRange` nothing is taken, and asking again changes nothing: a loop `while let Some(..)` has to end there.
     ///
     /// ```
-    /// use crsf_host::CrsfParser;
+    /// use crsf_host::{CrsfParser, CrsfStreamError};
     ///
     /// let mut parser = CrsfParser::new();
     /// let mut found = Vec::new();
     /// for mut piece in [0xC8, 2, 0, 0, 0x55, 0xC8, 2, 0, 0, 0xC8].chunks(3) {
     ///     while let Some(answer) = parser.next_answer(&mut piece) {
+    ///         if answer.result == Err(CrsfStreamError::PositionRange) {
+    ///             break;
+    ///         }
     ///         found.push((answer.position, answer.result.is_ok()));
     ///     }
     /// }
@@ -92,7 +96,7 @@ impl CrsfParser {
             }
             _ => Err(CrsfStreamError::of(answer)),
         };
-        // Of all these the entry leaves the place for a position alone with `PositionRange`, and the parser is where it was.
+        // Of these only `PositionRange` leaves the place for a position untouched; the parser is then where it was.
         let position = if result == Err(CrsfStreamError::PositionRange) { self.position() } else { position[0] };
         Some(StreamAnswer { position, result })
     }
@@ -152,7 +156,7 @@ pub struct StreamAnswer<'p> {
     pub result: Result<RawCrsfPacket<'p>, CrsfStreamError>,
 }
 
-/// A saved form: the position, a count, and the held bytes. To be kept as the bytes that `as_ref` shows.
+/// A saved form: the position, a count, and the held bytes. To be kept as the bytes that `as_ref` shows, 3 to [`SAVED_MAX`].
 #[derive(Clone, Debug)]
 pub struct SavedParser {
     form: [u8; SAVED_MAX],
