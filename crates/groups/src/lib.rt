@@ -137,12 +137,14 @@ fn put_all(n: u64, out: &mut [u8], at: usize)
     requires { ⌜ at + length (groups n) ≤ length (now out) ⌝ }
     ensures { λ _. ⌜ now (out .exit) ≡ pasted (now (out .entry)) at (groups n) ⌝ }
 {
-    if n < 128 {
-        out[at] = low_group(n);
-        return;
+    let mut left = n;
+    let mut i = at;
+    while 128 <= left {
+        out[i] = low_group(left) + 128;
+        left /= 128;
+        i += 1;
     }
-    out[at] = low_group(n) + 128;
-    put_all(n / 128, out, at + 1);
+    out[i] = low_group(left);
 }
 
 // The number, from place at on.

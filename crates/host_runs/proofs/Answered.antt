@@ -35,6 +35,7 @@ use Rattle.host_answer.proofs.Packing.{Whole, unpack}
 use Rattle.host_answer.proofs.Fits.{Fits, call-fits, frame-inside, Short}
 use Rattle.host_answer.proofs.Numbers.{row-bytes}
 use Rattle.host_answer.proofs.Calls.{reply-whole}
+use Rattle.host_answer.proofs.Slices.{more-keeps}
 use Rattle.host_runs.specs.Answered.{numberIn, takenIn, lenIn, saidIn, toldIn, saidBy}
 
 -- ---- A call of the stream
@@ -98,6 +99,10 @@ module _ {before input out after outAfter : List ℕ} {r : ℕ} (c : Calls befor
 
   pub asks-is : numberIn r ≡ 255 → c .answered .reply ≡ More
   asks-is e = asks-by (c .answered .taken) input after (c .answered .reply) (call-fits (c .steps)) (ap numberIn (sym (c .packs)) ∙ e)
+
+  -- where more is asked for, the slice stays
+  pub asks-keeps : numberIn r ≡ 255 → outAfter ≡ out
+  asks-keeps e = more-keeps c (asks-is e)
 
 -- what the slice is told of a call that moves: where it began, if it answers
 pub told-is : {before input : List ℕ} {place : ℕ} {rest after slice : List ℕ} {r : ℕ} (c : Calls before input (place ∷ rest) after slice r)

@@ -37,9 +37,11 @@ use Rattle.host_state.specs.Saving.{resetState, stateImage, restoreState}
 use Rattle.host_state.proofs.States.{has-size}
 use Rattle.host_state.proofs.Laws.{Holds, still-state, moves, goes-to, counted, reset-holds-nothing, image-by-held, restored-form, carried}
 use Rattle.host_answer.specs.Answer.{answers}
+use Rattle.host_answer.specs.Reply as replies
 use Rattle.host_answer.specs.Reply.{Calls}
 use Rattle.host_answer.proofs.Fits.{Short}
-use Rattle.host_runs.specs.Answered.{numberIn, lenIn, saidBy}
+use Rattle.host_answer.proofs.Slices.{any-slice}
+use Rattle.host_runs.specs.Answered.{numberIn, takenIn, lenIn, saidIn, toldIn, saidBy}
 use Rattle.host_runs.specs.Run.{HostRun, reset, restore, offer, next, resume}
 use Rattle.host_runs.proofs.Answered.{said-is, taken-is, asks-is, told-is, refused-number, wrote-is}
 
@@ -142,6 +144,14 @@ followed (resume {origin} {stream} {state} out any {r} {s} {written} {after} run
     let wrote = wrote-is (stateImage state) out (short-image state (f .valid)) saves zero in
     let h = holds-as (left (restoreState (take (lenIn r) written) any) e) (carried any (has-size any long) state out wrote) in
     record { valid = h .valid; given = f .given; history = held-as (h .holds) (f .history); says = f .says; stands = h .stands ∙ f .stands; tells = f .tells }
+
+-- a call with any slice, also one without a place, is a step of a run too: its answer and the state are those of a call with a place, which would be told
+-- where the answer began
+pub next-any : {origin : ℕ} {stream state : List ℕ} {said : List (List ℕ)} {told : List ℕ} (input later : List ℕ) {slot after slice : List ℕ} {r : ℕ}
+    → HostRun origin stream state (input ++ later) said told → canNumber state input ≡ true → (c : Calls state input slot after slice r)
+    → HostRun origin stream after (drop (takenIn r) input ++ later) (said ++ saidIn r input after)
+    (told ++ toldIn r (replies.told (c .answered .reply) (c .answered .position) (0 ∷ [])))
+next-any input later run can c = next input later 0 [] run can (any-slice c (0 ∷ []))
 
 module _ {origin : ℕ} {stream state unread : List ℕ} {said : List (List ℕ)} {told : List ℕ} (run : HostRun origin stream state unread said told) where
   -- what the calls said is what the reading answers first, whatever comes behind; what it answers further is of what is held and unread

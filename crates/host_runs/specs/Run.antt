@@ -22,7 +22,8 @@ use Rattle.host_runs.specs.Answered.{numberIn, takenIn, lenIn, saidIn, t
 --   reset     crsf_reset, of any bytes of the right number: a new stream
 --   restore   crsf_restore of a form that is accepted, into any bytes of the right number
 --   offer     the host has one more piece
---   next      crsf_next_raw_packet on what is unread, or on the first part of it, with a slice of one place or more. It is not refused with 12
+--   next      crsf_next_raw_packet on what is unread, or on the first part of it, with a slice of one place or more. It is not refused with 12. (With a
+--             slice without a place it says and leaves the same: `next-any` of proofs/Runs)
 --   resume    crsf_save into any buffer, and crsf_restore of the bytes that it wrote into any bytes of the right number: the stream goes on there
 pub data HostRun : ℕ → List ℕ → List ℕ → List ℕ → List (List ℕ) → List ℕ → Type 0 where
   reset : (any : List ℕ) {r : ℕ} {state : List ℕ} → length any ≡ size → (r, state) ≡ answers (resetState any) → HostRun 0 [] state [] [] []

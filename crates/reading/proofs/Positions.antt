@@ -11,7 +11,7 @@ use lib.ListN.{length, take, drop, length-append, length-drop}
 use lib.Seq.{drop-drop, drop-append-seam}
 use Rattle.reading.specs.Answer.{Answer, drops, allDropped}
 use Rattle.reading.specs.Reading.{First, stop, says, first, Reading, reading}
-use Rattle.reading.specs.Call.{droppedBy}
+use Rattle.reading.specs.Call.{droppedBy, call}
 use Rattle.reading.specs.History.{answered, History}
 use Rattle.reading.specs.Positions.{greatest, behind, numbered, isWithin, Positioned}
 use Rattle.reading.proofs.First.{stands}
@@ -176,7 +176,12 @@ module _ {m : ℕ} {stream held₁ unread₁ held₂ unread₂ : List ℕ} {give
       let same : says a ≡ says b = sym there ∙ again in
       cc
 
-  -- all of them come again, first and in that order, at the same positions
+  -- read until it asks for more, all of them come again, first and in that order, at the same positions; and then those of what has come since
+  pub all-again : call m held₂ unread₂ .answer ≡ stop
+      → numbered p given₂ ≡ numbered p given₁ ++ numbered (behind p given₁) (reading m (held₁ ++ unread₁ ++ more) .answers)
+  all-again asks = sym (positioned now p .all asks .0) ∙ positioned then p .so-far more
+
+  -- on the way there, as many as have come are the first of them
   pub again-from-start : length given₁ ≤ length given₂ → take (length given₁) (numbered p given₂) ≡ numbered p given₁
   again-from-start fewer =
       sym (numbered-take p (length given₁) given₂) ∙ ap (numbered p) (one-begins-other more then now fewer)

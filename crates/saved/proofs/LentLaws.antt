@@ -1,9 +1,9 @@
 -- A lent parser that is saved, and a lent parser that is restored from what the save wrote: they hold the same bytes and stand at the same
 -- position (RULES 9.6), and demand 3 goes on (RULES 7.3, 18.4).
 -- Assumes nothing.
-use mathlib.Core.Path.{_≡_, sym, ap, ap₂, _∙_, subst}
+use mathlib.Core.Path.{_≡_, refl, sym, ap, ap₂, _∙_, subst}
 use mathlib.Core.Bool.{true, _&&_}
-use mathlib.Core.List.{List, _++_}
+use mathlib.Core.List.{List, [], _++_}
 use Prim.Native.Nat.{ℕ, _+_, _≤_, _<_}
 use native.Mathlib.Omega.{arith}
 use borrow.Author.Tests.{le-leb}
@@ -11,17 +11,16 @@ use lib.ListN.{length, take}
 use Rattle.base.specs.Parts.{pasted}
 use Rattle.reading.specs.Answer.{Answer}
 use Rattle.reading.specs.Reading.{reading, _⊕_, limit}
-use Rattle.reading.specs.History.{History}
-use Rattle.reading.specs.Positions.{greatest, numbered}
+use Rattle.reading.specs.History.{History, begin}
+use Rattle.reading.specs.Positions.{greatest}
 use Rattle.reading.proofs.History.{resumed}
-use Rattle.reading.proofs.Positions.{numbered-append}
 use Rattle.parser.proofs.Histories.{Stands}
 use Rattle.parser.specs.declared.CrsfParser.{CrsfParser}
 use Rattle.parser.specs.Parser.{heldBy, isState}
 use Rattle.writing.specs.declared.Written.the-variants.{Wrote}
 use Rattle.writing.specs.Writing.{writtenRow}
 use Rattle.saved.specs.declared.form.Restored.{Restored}
-use Rattle.saved.specs.Form.{savedForm}
+use Rattle.saved.specs.Form.{savedForm, positionIn, isForm, heldOf}
 use Rattle.saved.specs.Save.{heldRow, restoredRow}
 use Rattle.saved.specs.Parser.{resumeOf}
 use Rattle.saved.specs.Lent.{Saves, Resumes}
@@ -40,6 +39,18 @@ resumes-at : (q : CrsfParser) (position : ℕ) (held : List ℕ) → length held
 unfolding resumeOf
 resumes-at q position held few fits =
     simp (form-accepted position held limit few fits, held-again position held limit few fits, position-again position held (omega arith))
+
+-- a parser that is restored from any form that is accepted begins a history there: its held bytes are the stream so far, numbered from the form's position
+pub restored-begins : (q : CrsfParser) (form : List ℕ) → isForm limit form ≡ true
+    → Stands (positionIn form) (heldOf limit form) (resumeOf q form .1) [] []
+unfolding resumeOf
+restored-begins q form good =
+    let held = heldOf limit form in
+    let left : resumeOf q form .1 ≡ at-front q (positionIn form) held = simp good in
+    rw left (record {
+      history = subst (λ (l : List ℕ). History limit held l [] []) (sym (restored-holds (q .buffer) held)) (begin held);
+      position = refl;
+    })
 
 -- what a restored parser is to the one that was saved
 pub record Carried (p q : CrsfParser) (r : Restored) : Type 0 where
@@ -74,9 +85,10 @@ module _ (p q : CrsfParser) (full : length (p .buffer) ≡ limit) (out : List �
   goes-on-carried {m} {unread = unread} {held₂} {unread₂} {given₂ = given₂} more before later =
       resumed more before (subst (λ (l : List ℕ). History m (l ++ unread ++ more) held₂ unread₂ given₂) (carried .same) later)
 
-  -- and they are numbered on from where the saved parser stood: each position is the stream's, as if there had been no save
-  pub numbers-carried : {s : ℕ} {stream unread : List ℕ} {given : List Answer} (given₂ : List Answer) → Stands s stream p unread given
-      → numbered s (given ++ given₂) ≡ numbered s given ++ numbered (q′ .position) given₂
-  numbers-carried {s} {given = given} given₂ h =
-      numbered-append s given given₂
-      ∙ ap (λ (k : ℕ). numbered s given ++ numbered k given₂) (sym (carried .stands ∙ h .position))
+  -- and the restored parser stands where the saved one stood, in the same history: what it answers from there on is numbered as if there had been no save
+  pub stands-carried : {s : ℕ} {stream unread : List ℕ} {given : List Answer} → Stands s stream p unread given → Stands s stream q′ unread given
+  stands-carried {stream = stream} {unread} {given} h =
+      record {
+        history = subst (λ (l : List ℕ). History limit stream l unread given) (sym (carried .same)) (h .history);
+        position = carried .stands ∙ h .position;
+      }

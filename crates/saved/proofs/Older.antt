@@ -1,5 +1,4 @@
--- Laws of the older form, of the held bytes alone: it is accepted exactly if it is the form of some bytes, fewer than the limit, and equal held bytes mean
--- equal forms.
+-- Laws of the older form, of the held bytes alone: it is accepted exactly if it is the form of some bytes, fewer than the limit.
 -- Assumes nothing.
 use mathlib.Core.Path.{_≡_, refl, sym, ap, _∙_}
 use mathlib.Core.Bool.{true, false, _&&_}
@@ -32,21 +31,11 @@ module _ (m : ℕ) (held : List ℕ) (few : length held < m) where
   unfolding behindNumber
   bytes-again = ap behindNumber reads-count
 
--- equal forms are those of equal bytes
-pub same-held : (h k : List ℕ) → heldForm h ≡ heldForm k → h ≡ k
-same-held h k e =
-    let m = length h + length k + 1 in
-    sym (bytes-again m h (omega arith)) ∙ ap (heldBytes m) e ∙ bytes-again m k (omega arith)
-
 -- one that is accepted is the form of its held bytes
 pub older-again : (m : ℕ) (form : List ℕ) → Bytes form → isHeldForm m form ≡ true → heldForm (heldBytes m form) ≡ form
 unfolding heldForm
 older-again m form all good =
     sym (read-written (m - 1) form (length (heldBytes m form)) (heldBytes m form) all (accepted m form good .counted) .0)
-
--- of two that are accepted, equal held bytes mean equal forms
-pub same-older : (m : ℕ) (f g : List ℕ) → Bytes f → Bytes g → isHeldForm m f ≡ true → isHeldForm m g ≡ true → heldBytes m f ≡ heldBytes m g → f ≡ g
-same-older m f g p q a b e = sym (older-again m f p a) ∙ ap heldForm e ∙ older-again m g q b
 
 -- up to the limit 128 the count takes up one byte: at 64 the forms are those of 0 to 63 bytes, and no others
 module _ (m b : ℕ) (rest : List ℕ) (some : 1 ≤ m) (one : m ≤ 128) where

@@ -1,5 +1,5 @@
-// Positions: saved forms at both sides of each edge, older ones among them, one cut at each place and one with a byte more; calls at the last positions of a
-// stream, on pieces that just can be numbered and that just can't; a state that holds a byte beyond the last position; the longest form.
+// Positions: the worked cases; saved forms at both sides of each edge, older ones among them, one cut at each place and one with a byte more; calls at the
+// last positions of a stream, on pieces that just can be numbered and that just can't; a state that holds a byte beyond the last position; the longest form.
 use crate::show::BEFORE;
 use crate::show::left;
 use crate::show::named;
@@ -245,7 +245,7 @@ fn became(p: CrsfParser, q: CrsfParser) {
     io::write_all(STDOUT_FILENO, b"\n");
 }
 
-fn calls(p: CrsfParser, piece: &[u8]) {
+fn calls(p: CrsfParser, piece: &[u8]) -> CrsfParser {
     state(p);
     io::write_all(STDOUT_FILENO, b", given ");
     brief(piece);
@@ -254,6 +254,7 @@ fn calls(p: CrsfParser, piece: &[u8]) {
     let answered = out.answered;
     said(answered);
     became(p, out.parser);
+    out.parser
 }
 
 // C8, a length byte and zeros: where the length is right a whole frame, since its check byte is 0.
@@ -377,7 +378,26 @@ fn longest() {
     restores(&form);
 }
 
+// The other worked cases of RULES 9 and 18.
+fn worked_forms() {
+    restores(&[3, 0xC8, 2, 0]);
+    restores(&[0x40, 5, 3, 0xC8, 2, 0]);
+    restores(&[0x40, 0]);
+    restores(&[0x40, 0, 1]);
+    restores(&[0x40, 0, 0, 0xC8]);
+}
+
+fn worked_calls() {
+    let behind = calls(standing(2, 0, 0, 0), &[0xC8, 2, 0, 0, 0x55]);
+    calls(calls(behind, &[0x55]), &[]);
+    let wrong = calls(standing(2, 0, 2, 4), &[0, 1]);
+    calls(calls(calls(wrong, &[]), &[]), &[]);
+    calls(standing(2, 0, 0, u64::MAX), &[0x55]);
+}
+
 pub fn cases() {
+    worked_forms();
+    worked_calls();
     accepted();
     malformed();
     cuts();
