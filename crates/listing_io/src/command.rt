@@ -68,9 +68,10 @@ Lists the CRSF frames of an upload, or of standard input where FILE is - or is n
 line where it begins, in bytes from 0. Each line is written as soon as it is known:
   0 frame C8 16 22   a frame: address, packet type, payload length
   26 sync 55         a byte that is not an address
-  27 length 3F       after an address, a length byte that is not 2 to 62
-  30 crc 00 01       the check byte should be the first and is the second
+  27 length 00       after an address, a length byte that is not 2 to 62
+  28 crc 00 01       the check byte should be the first and is the second
   99 held 3          the last line: the input has ended, and this many bytes, from there on, wait for the rest of a frame
+An upload of 2^64 bytes or more has no such last line, and the status is 1.
 ",
         );
     }

@@ -38,8 +38,8 @@ Holds p n = n ≡ heldCount p
 abbrev IsAt : CrsfParser → ℕ → Type 0
 IsAt p n = n ≡ positionOf p
 
-abbrev Stands : CrsfParser → List ℕ → Type 0
-Stands p places = places ≡ placesOf p
+abbrev AtPlaces : CrsfParser → List ℕ → Type 0
+AtPlaces p places = places ≡ placesOf p
 
 module _ {M : Type 1} (𝓤 : URA M) (H : Heap 𝓤) (A : Atoms 𝓤) (mem : Memory → SProp 𝓤) (run : Routine → Fun 𝓤) where
   pub reset-states : (κs : Lfts 1) (a : _) (r : _) (s : _) → reset.clauses 𝓤 H A mem run κs a .ensures tt r s ≡ fact 𝓤 (Resets (now (a .0)) (now (s .0)))
@@ -55,7 +55,7 @@ module _ {M : Type 1} (𝓤 : URA M) (H : Heap 𝓤) (A : Atoms 𝓤) (mem : Mem
   pub position-states : (κs : Lfts 1) (a : _) (r : ℕ) (s : _) → position.clauses 𝓤 H A mem run κs a .ensures tt r s ≡ fact 𝓤 (IsAt (now (a .0)) r)
   position-states κs a r s = refl
 
-  pub places-states : (κs : Lfts 1) (a : _) (r : _) (s : _) → places.clauses 𝓤 H A mem run κs a .ensures tt r s ≡ fact 𝓤 (Stands (now (a .0)) (now r))
+  pub places-states : (κs : Lfts 1) (a : _) (r : _) (s : _) → places.clauses 𝓤 H A mem run κs a .ensures tt r s ≡ fact 𝓤 (AtPlaces (now (a .0)) (now r))
   places-states κs a r s = refl
 
 -- two parsers at exit, and two results, that these allow
@@ -69,7 +69,7 @@ module _ (p : CrsfParser) where
   pub lent-position-one : (n n′ : ℕ) → IsAt p n → IsAt p n′ → n ≡ n′
   lent-position-one n n′ = same
 
-  pub lent-places-one : (l l′ : List ℕ) → Stands p l → Stands p l′ → l ≡ l′
+  pub lent-places-one : (l l′ : List ℕ) → AtPlaces p l → AtPlaces p l′ → l ≡ l′
   lent-places-one l l′ = same
 
   pub lent-next-one : (input : List ℕ) (q q′ : CrsfParser) (a a′ : Answered) → length (p .buffer) ≡ limit → NextsTo p input q a
