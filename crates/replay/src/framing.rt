@@ -1,4 +1,5 @@
-// The stream call over the host's state: what it answers, how much it takes, and the frame's bytes or what is held afterwards.
+// The call over the places of the host's state, whose position it leaves (the recorded answers have none): what it answers, how much it takes, and the
+// frame's bytes or what is held afterwards.
 use crate::case::Expected;
 use crate::case::bytes_from;
 use base::byte_at;
