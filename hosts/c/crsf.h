@@ -29,7 +29,7 @@
  * Stack: bytes that a call needs at most, with its return address and its arguments counted in. Measured on x86-64 by painting the stack:
  * `hosts/test --stack` measures again, and fails where a call needs more than this.
  *     crsf_next_raw_packet              120        crsf_reset                         24
- *     crsf_save                         408        crsf_restore                      104
+ *     crsf_save                          48        crsf_restore                      104
  *     crsf_held                          24        crsf_position                      24
  *     crsf_is_address                    24        crsf_header_of                     24
  *     crsf_checksum                      56        crsf_pack_altitude                 24
@@ -46,7 +46,7 @@
  *     crsf_read_rpm                      24        crsf_read_temp                     64
  *     crsf_read_voltages                 88        crsf_log_next                     296
  *     crsf_log_end                      168        crsf_log_reset                     24
- *     crsf_log_start                     24        crsf_log_entry                    232
+ *     crsf_log_start                     24        crsf_log_entry                    104
  */
 #ifndef CRSF_H
 #define CRSF_H
