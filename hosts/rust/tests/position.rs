@@ -1,7 +1,7 @@
 //! The stream and its positions, against a plain model: what each entry of the state answers, and what then stands in the state, in a saved form and
 //! in the places for a position, from the rules alone. Nothing of the archive is asked for what is expected. Each call is made by the entry itself, for
 //! the eight bytes of its answer, and through the wrapper, where there is a parser of that state.
-use crsf_host::{CrsfParser, CrsfStreamError, StreamAnswer};
+use crsf_host::{CrsfParser, CrsfStreamError, StreamAnswer, SAVED_MAX};
 use CrsfStreamError::{BadState, InvalidCrc, InvalidPacketLength, InvalidSync, PositionRange};
 
 const ADDRESSES: [u8; 24] =
@@ -717,7 +717,7 @@ fn the_longest_form() {
     let mut state = [0xFF; 74];
     (state[0], state[1], state[73]) = (1, 64, 0xC0);
     let saved = CrsfParser::from_state(state).unwrap().save().unwrap();
-    assert_eq!(saved.as_ref().len(), 75);
+    assert_eq!((saved.as_ref().len(), SAVED_MAX), (75, 75));
     assert_eq!(saved.as_ref()[..12], [0x40, 0xC0, 0xFF, 0xFF, 0xFF, 0xFF, 0xFF, 0xFF, 0xFF, 0xFF, 1, 63]);
     let mut out = [0xAA; 75];
     // SAFETY: both slices are passed as their own pointer and length, and the entry keeps nothing.
