@@ -7,6 +7,7 @@ mod lists;
 mod position_edges;
 mod series_edges;
 mod show;
+mod show_state;
 
 use show::heading;
 

@@ -3,7 +3,11 @@
 use crate::show::BEFORE;
 use crate::show::left;
 use crate::show::named;
-use crate::show::spelled;
+use crate::show_state::at;
+use crate::show_state::brief;
+use crate::show_state::part;
+use crate::show_state::refused;
+use crate::show_state::state;
 use libc::STDOUT_FILENO;
 use numbered::Answered;
 use parser::CrsfParser;
@@ -11,69 +15,11 @@ use parser::held_len;
 use parser::next_raw_packet;
 use parser::position;
 use parser::reset;
-use refusals::Refusal;
 use saved::form::Restored;
 use stream::LIMIT;
 use stream::step::Place;
 use stream::step::Reply;
 use writing::Written;
-
-// ---- What is written
-
-// The bytes, or how many there are if they are many.
-fn brief(bytes: &[u8]) {
-    let n = bytes.len();
-    if n == 0 {
-        io::write_all(STDOUT_FILENO, b"nothing ");
-    } else if n <= 16 {
-        spelled(bytes);
-    } else {
-        named(b"", n);
-        io::write_all(STDOUT_FILENO, b" bytes ");
-    }
-}
-
-fn part(bytes: &[u8], from: usize, count: usize) -> &[u8] {
-    if bytes.len() < from {
-        return &bytes[..0];
-    }
-    if bytes.len() - from < count {
-        return &bytes[..0];
-    }
-    &bytes[from..from + count]
-}
-
-fn at(position: u64) {
-    io::write_all(STDOUT_FILENO, b"@");
-    io::print_decimal(STDOUT_FILENO, position);
-}
-
-fn held(places: &[u8], start: usize, end: usize) {
-    if start <= end {
-        if end <= places.len() {
-            io::write_all(STDOUT_FILENO, b"holds ");
-            brief(part(places, start, end - start));
-            return;
-        }
-    }
-    named(b"start ", start);
-    named(b" end ", end);
-    io::write_all(STDOUT_FILENO, b" ");
-}
-
-// What a parser holds, and where it stands.
-fn state(p: CrsfParser) {
-    let places = p.buffer;
-    held(&places, p.start, p.end);
-    at(p.position);
-}
-
-fn refused(refusal: Refusal) {
-    let row = refusals::row_of(refusal);
-    named(b"refused ", row.number as usize);
-    named(b" ", row.first);
-    named(b" ", row.second);
-}
 
 // ---- Saved forms
 
