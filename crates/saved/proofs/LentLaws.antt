@@ -1,5 +1,5 @@
--- A lent parser that is saved, and a lent parser that is restored from what the save wrote: they hold the same bytes and stand at the same
--- position (RULES 9.6), and demand 3 goes on (RULES 7.3, 18.4).
+-- A parser that is restored from any accepted form begins a history, at the form's position (RULES 18.4). A lent parser that is saved, and a lent parser
+-- that is restored from what the save wrote: they hold the same bytes and stand at the same position (RULES 9.6), and demand 3 goes on (RULES 7.3, 18.4).
 -- Assumes nothing.
 use mathlib.Core.Path.{_≡_, refl, sym, ap, ap₂, _∙_, subst}
 use mathlib.Core.Bool.{true, _&&_}
