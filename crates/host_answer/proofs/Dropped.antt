@@ -12,7 +12,7 @@ use Rattle.base.specs.Parts.{placed}
 use Rattle.refusals.specs.Row.{numberOf}
 use Rattle.reading.specs.Answer as reading
 use Rattle.reading.specs.Answer.{drops}
-use Rattle.reading.specs.Reading.{First, stop, says, first}
+use Rattle.reading.specs.Reading.{First, stop, says, stops, first}
 use Rattle.reading.specs.Call.{droppedBy, call}
 use Rattle.reading.proofs.First.{stands}
 use Rattle.reading.proofs.Call.{answers-first}
@@ -23,7 +23,7 @@ use Rattle.stream.specs.declared.step.Reply.{Reply}
 use Rattle.stream.specs.declared.step.Reply.the-variants.{More, Frame, Refused}
 use Rattle.stream.specs.declared.step.Moved.{Moved}
 use Rattle.stream.proofs.Replies.{said-is}
-use Rattle.stream.proofs.Loop.{stops, asks-where-stops}
+use Rattle.stream.proofs.Loop.{asks-where-stops}
 use Rattle.stream.proofs.Unique.{numberSaid, says-framing}
 use Rattle.host_answer.specs.Reply.{droppedIn, saysWhere, told}
 

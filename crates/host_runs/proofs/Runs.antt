@@ -15,7 +15,7 @@ use Rattle.refusals.specs.Row.{rowOf}
 use Rattle.refusals.specs.declared.Refusal.the-variants.{BadState}
 use Rattle.reading.specs.Answer as reading
 use Rattle.reading.specs.Answer.{row}
-use Rattle.reading.specs.Reading.{limit, Reading, reading, First, stop, says}
+use Rattle.reading.specs.Reading.{limit, Reading, reading, First, stop, says, stops}
 use Rattle.reading.specs.Call.{call}
 use Rattle.reading.specs.History.{answered, History}
 use Rattle.reading.specs.History as history
@@ -26,7 +26,7 @@ use Rattle.stream.specs.Step.{Moves}
 use Rattle.stream.specs.Rows.{rowsOf}
 use Rattle.stream.proofs.Replies.{rows-on, asks, held-is}
 use Rattle.stream.proofs.Histories.{goes-on}
-use Rattle.stream.proofs.Loop.{stops, asks-where-stops}
+use Rattle.stream.proofs.Loop.{asks-where-stops}
 use Rattle.numbered.proofs.Within.{within}
 use Rattle.saved.specs.Form as forms
 use Rattle.saved.specs.Form.{savedForm, isForm, heldOf}

@@ -1,3 +1,2 @@
--- `Same`: words are the same just where their bytes are. `Unique`: one answer.
-pub mod Same
+-- `Unique`: one answer.
 pub mod Unique

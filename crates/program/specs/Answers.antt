@@ -4,16 +4,17 @@ use Prim.Native.Nat.{ℕ}
 use mathlib.Core.Bool.{Bool}
 use mathlib.Core.List.{List}
 use Rattle.base.specs.Choice.{if_then_else_}
-use Rattle.program.specs.Words.{sameWord, isOption, dash, helpWord, versionWord}
+use Rattle.base.specs.Same.{sameBytes}
+use Rattle.program.specs.Words.{isOption, dash, helpWord, versionWord}
 use Rattle.program.specs.declared.argument.Asked.{Asked}
 use Rattle.program.specs.declared.argument.Asked.the-variants.{Input, File, Help, Version, Refused}
 
 -- standard input, help, the version; no other option; else a file of that name
 unfoldable pub askedBy : List ℕ → Asked
 askedBy word =
-    if sameWord word dash then Input else
-    if sameWord word helpWord then Help else
-    if sameWord word versionWord then Version else
+    if sameBytes word dash then Input else
+    if sameBytes word helpWord then Help else
+    if sameBytes word versionWord then Version else
     if isOption word then Refused else
     File
 

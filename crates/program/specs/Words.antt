@@ -1,17 +1,10 @@
 -- Words of a command line (RULES 13.8).
 -- Assumes nothing.
 use Prim.Native.Nat.{ℕ}
-use mathlib.Core.Bool.{Bool, true, false, _&&_}
+use mathlib.Core.Bool.{Bool, _&&_}
 use mathlib.Core.List.{List, [], _∷_}
 use lib.Dec.{eqb, leb}
 use lib.ListN.{length, getD}
-
--- the same bytes
-unfoldable pub sameWord : List ℕ → List ℕ → Bool
-sameWord [] [] = true
-sameWord [] (b ∷ other) = false
-sameWord (a ∷ word) [] = false
-sameWord (a ∷ word) (b ∷ other) = eqb a b && sameWord word other
 
 -- a dash, and something behind it
 abbrev pub isOption : List ℕ → Bool

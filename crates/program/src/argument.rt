@@ -1,7 +1,7 @@
 // What the arguments of a program that takes one file ask for.
 use crate::tell;
 use crate::words::is_option;
-use crate::words::is_word;
+use base::is_same;
 use libc::STDERR_FILENO;
 ghost use mathlib.Core.Path.{_≡_};
 ghost use Rattle.io.specs.Counts.{Counts};
@@ -44,16 +44,17 @@ fn refuse_option(name: &[u8], usage: &[u8], word: &[u8]) -> Asked
     refuse(usage)
 }
 
-fn asked_by(name: &[u8], usage: &[u8], word: &[u8]) -> Asked
+// What one argument asks for.
+pub fn asked_by(name: &[u8], usage: &[u8], word: &[u8]) -> Asked
     ensures { λ r. ⌜ r ≡ askedBy (now (word .entry)) ⌝ }
 {
-    if is_word(word, b"-") {
+    if is_same(word, b"-") {
         return Asked::Input;
     }
-    if is_word(word, b"--help") {
+    if is_same(word, b"--help") {
         return Asked::Help;
     }
-    if is_word(word, b"--version") {
+    if is_same(word, b"--version") {
         return Asked::Version;
     }
     if is_option(word) {

@@ -6,6 +6,7 @@ pub mod words;
 
 pub use argument::Arguments;
 pub use argument::Asked;
+pub use argument::asked_by;
 pub use argument::read_arguments;
 use libc::STDERR_FILENO;
 use libc::STDOUT_FILENO;

@@ -10,7 +10,7 @@ use lib.ListN.{length, take, drop, length-append, length-drop}
 use lib.Seq.{take-all, drop-drop}
 use Rattle.reading.specs.Answer as reading
 use Rattle.reading.specs.Answer.{drops}
-use Rattle.reading.specs.Reading.{First, stop, says, Reading, reading, _⊕_}
+use Rattle.reading.specs.Reading.{First, stop, says, stops, Reading, reading, _⊕_}
 use Rattle.reading.specs.Call.{Call, call, droppedBy}
 use Rattle.reading.specs.History.{answered, History}
 use Rattle.reading.specs.History as history
@@ -30,10 +30,6 @@ use Rattle.stream.proofs.Replies.{said-is, taken-is, held-is}
 use Rattle.stream.proofs.Histories.{goes-on}
 
 -- ---- A call asks for more where the reading stops, and nowhere else
-
-unfoldable pub stops : First → Bool
-stops stop = true
-stops (says a) = false
 
 unfoldable saysMore : Said → Bool
 saysMore more = true

@@ -1,53 +1,54 @@
 -- `program::argument::asked_by` meets its contract. Assumes nothing.
 use mathlib.Core.Path.{_≡_, sym, _∙_}
 use mathlib.Core.Bool.{true, false}
-use Rattle.program.specs.Words.{sameWord, isOption, dash, helpWord, versionWord}
+use Rattle.base.specs.Same.{sameBytes}
+use Rattle.program.specs.Words.{isOption, dash, helpWord, versionWord}
 use Rattle.program.specs.Answers.{askedBy}
 use borrow.Author.Needs.{needs}
 use Rattle.program.proofs.argument.asked_by.Statement.{statement}
 use Rattle.program.proofs.argument.asked_by.Tie as tie
 
 -- what each test said
-no-dash : (c : tie.Else1) → sameWord (c .before .before .before .before .before .before .args .word .now) dash ≡ false
-no-dash c = sym (c .before .is-word .ensures) ∙ c .if1 .left
+no-dash : (c : tie.Else1) → sameBytes (c .before .before .before .before .before .before .args .word .now) dash ≡ false
+no-dash c = sym (c .before .is-same .ensures) ∙ c .if1 .left
 
-no-help : (c : tie.Else2) → sameWord (c .before .before .before .before .before .before .before .before .before .args .word .now) helpWord ≡ false
-no-help c = sym (c .before .is-word2 .ensures) ∙ c .if2 .left
+no-help : (c : tie.Else2) → sameBytes (c .before .before .before .before .before .before .before .before .before .args .word .now) helpWord ≡ false
+no-help c = sym (c .before .is-same2 .ensures) ∙ c .if2 .left
 
-no-version : (c : tie.Else3) → sameWord (c .before .before .before .before .before .before .before .before .before .before .before .before .args .word .now) versionWord ≡ false
-no-version c = sym (c .before .is-word3 .ensures) ∙ c .if3 .left
+no-version : (c : tie.Else3) → sameBytes (c .before .before .before .before .before .before .before .before .before .before .before .before .args .word .now) versionWord ≡ false
+no-version c = sym (c .before .is-same3 .ensures) ∙ c .if3 .left
 
-slice-aggregate-is-word : tie.Need-slice-aggregate-is-word
-slice-aggregate-is-word c = search needs
+slice-aggregate-is-same : tie.Need-slice-aggregate-is-same
+slice-aggregate-is-same c = search needs
 
-is-word-requires : tie.Need-is-word-requires
-is-word-requires c κs = search needs
+is-same-requires : tie.Need-is-same-requires
+is-same-requires c κs = search needs
 
 returns : tie.Need-returns
 unfolding askedBy
-returns c = simp (sym (c .before .is-word .ensures) ∙ c .if1 .taken)
+returns c = simp (sym (c .before .is-same .ensures) ∙ c .if1 .taken)
 
-slice-aggregate-is-word-2 : tie.Need-slice-aggregate-is-word-2
-slice-aggregate-is-word-2 c = search needs
+slice-aggregate-is-same-2 : tie.Need-slice-aggregate-is-same-2
+slice-aggregate-is-same-2 c = search needs
 
-is-word-requires-2 : tie.Need-is-word-requires-2
-is-word-requires-2 c κs = search needs
+is-same-requires-2 : tie.Need-is-same-requires-2
+is-same-requires-2 c κs = search needs
 
 returns-2 : tie.Need-returns-2
 unfolding askedBy
-returns-2 c = simp (no-dash (c .before .before .before), sym (c .before .is-word2 .ensures) ∙ c .if2 .taken)
+returns-2 c = simp (no-dash (c .before .before .before), sym (c .before .is-same2 .ensures) ∙ c .if2 .taken)
 
-slice-aggregate-is-word-3 : tie.Need-slice-aggregate-is-word-3
-slice-aggregate-is-word-3 c = search needs
+slice-aggregate-is-same-3 : tie.Need-slice-aggregate-is-same-3
+slice-aggregate-is-same-3 c = search needs
 
-is-word-requires-3 : tie.Need-is-word-requires-3
-is-word-requires-3 c κs = search needs
+is-same-requires-3 : tie.Need-is-same-requires-3
+is-same-requires-3 c κs = search needs
 
 returns-3 : tie.Need-returns-3
 unfolding askedBy
 returns-3 c =
     let help = c .before .before .before in
-    simp (no-dash (help .before .before .before), no-help help, sym (c .before .is-word3 .ensures) ∙ c .if3 .taken)
+    simp (no-dash (help .before .before .before), no-help help, sym (c .before .is-same3 .ensures) ∙ c .if3 .taken)
 
 is-option-requires : tie.Need-is-option-requires
 is-option-requires c κs = search needs
@@ -75,14 +76,14 @@ pub asked-by-spec : {M : Type 1} → statement M
 asked-by-spec =
     tie.close
     (tie.spec
-    slice-aggregate-is-word
-    is-word-requires
+    slice-aggregate-is-same
+    is-same-requires
     returns
-    slice-aggregate-is-word-2
-    is-word-requires-2
+    slice-aggregate-is-same-2
+    is-same-requires-2
     returns-2
-    slice-aggregate-is-word-3
-    is-word-requires-3
+    slice-aggregate-is-same-3
+    is-same-requires-3
     returns-3
     is-option-requires
     refuse-option-requires
