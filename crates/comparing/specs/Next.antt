@@ -8,10 +8,10 @@ use lib.Dec.{eqb}
 use lib.ListN.{length}
 use Rattle.refusals.specs.Row.{rowOf}
 use Rattle.refusals.specs.declared.Row.{Row}
-use Rattle.reading.specs.Reading.{limit, first}
+use Rattle.reading.specs.Reading.{limit, stops, first}
 use Rattle.reading.specs.Call.{droppedBy}
 use Rattle.reading.specs.History.{answered}
-use Rattle.stream.specs.Step.{saidOf, meaningOf}
+use Rattle.stream.specs.Step.{saidOf, meaningOf, asksForMore}
 use Rattle.stream.specs.declared.step.Reply.{Reply}
 use Rattle.stream.specs.declared.step.Reply.the-variants.{More, Frame, Refused}
 use Rattle.lines.specs.Lines.{linesOf}
@@ -21,6 +21,7 @@ use Rattle.comparing.specs.declared.next.Next.{Next}
 -- what the reading has first in the input, with nothing held: so a frame lies in it
 pub record Finds (input : List ℕ) (r : Next) : Type 0 where
   pub said : meaningOf (r .reply) input [] ≡ saidOf false (first limit input)
+  pub asks : asksForMore (r .reply) ≡ stops (first limit input)
   pub size-is : r .size ≡ droppedBy (first limit input)
   pub inside : r .size ≤ length input
   pub line-is : lineBy (r .reply) input [] ≡ linesOf (answered (first limit input))
@@ -39,7 +40,8 @@ isFrame More = false
 isFrame (Frame p) = true
 isFrame (Refused r) = false
 
--- the right upload goes on with the same answer, of as many bytes
+-- there is an answer, and the right upload goes on with the same, of as many bytes
 pub record Again (left right : List ℕ) (r : Next) : Type 0 where
+  pub some : stops (first limit left) ≡ false
   pub same : first limit right ≡ first limit left
   pub inside : r .size ≤ length right
