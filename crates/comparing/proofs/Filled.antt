@@ -21,7 +21,7 @@ use Rattle.lines.specs.Put.{Puts}
 use Rattle.lines.proofs.Puts.{puts-none, puts-then, length-puts}
 use Rattle.pairs.specs.Pairs.{pair, sideOf, agrees}
 use Rattle.pairs.specs.Comparison.{ifSame, ifOther}
-use Rattle.comparing.specs.Call.{Comparing, stays, settles, closes, hungry, turnOf, goesOn, after, longestTurn, turnsWithin, compareOf, shown, filledOf, isCounted}
+use Rattle.comparing.specs.Call.{Comparing, stays, settles, closes, hungry, turnOf, goesOn, after, longestTurn, turnsWithin, compareOf, shown, Within}
 use Rattle.comparing.specs.Parts.{Turns}
 use Rattle.comparing.specs.declared.Compared.{Compared}
 use Rattle.comparing.specs.declared.turn.Turned.{Turned}
@@ -215,6 +215,10 @@ module _ {s : List ℕ} {lends : Bool} {t : List ℕ} {rends : Bool} {wanted : C
 
     pub same-size : length outAfter ≡ length out₀
     same-size = length-puts (omega (arith, turns .puts .next, turns .short, fills .out-size, fills .room)) (turns .puts) ∙ fills .out-size
+
+    pub within-turn : Within (length s) (length t) (length out₀)
+        (record { left = l + one .left; right = r + one .right; agree = one .agree; differ = one .differ; written = one .at; wants = one .wants })
+    within-turn = record { left-in = takes-left; right-in = takes-right; written-in = in-room }
 
     goes : {b : Bool} → goesOn (one .wants) ≡ b → goesOn (c .wants) ≡ b
     goes e = ap goesOn (sym (turns .wants-is)) ∙ e

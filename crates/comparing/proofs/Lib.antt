@@ -3,4 +3,7 @@ pub mod Found
 pub mod Alike
 pub mod Turned
 pub mod Filled
+pub mod Carried
+pub mod Runs
+pub mod Progress
 pub mod Unique

@@ -8,4 +8,4 @@ use Rattle.comparing.specs.declared.Compared.{Compared}
 use Rattle.comparing.proofs.compare_in.Reads as compare-in
 
 pub compare-in-one : OneAnswer {Seen = Compared × List ℕ} compare-in.Post (λ κs r s. (r, now (s .1 .1 .1 .1 .1 .1 .0)))
-compare-in-one κs a r r′ s s′ = same
+compare-in-one κs a r r′ s s′ p q = same (p .0) (q .0)

@@ -1,7 +1,7 @@
 -- One call of a comparison: turns, one after another, while there is room for the longest line (RULES 19). A turn looks at what stands first in what is
 -- left of both uploads.
 -- Assumes nothing.
-use Prim.Native.Nat.{ℕ, zero, suc, _+_, _-_}
+use Prim.Native.Nat.{ℕ, zero, suc, _+_, _-_, _≤_}
 use mathlib.Core.Bool.{Bool, true, false, _&&_, not}
 use mathlib.Core.List.{List, [], _++_}
 use lib.Dec.{ltb, leb}
@@ -97,6 +97,14 @@ goesOn Room = true
 goesOn Nothing = false
 goesOn (Refused r) = false
 
+-- nothing is to come
+abbrev pub isWhole : Wants → Bool
+isWhole Left = false
+isWhole Right = false
+isWhole Room = false
+isWhole Nothing = true
+isWhole (Refused r) = false
+
 -- a turn, and then a comparison of what it leaves
 abbrev pub after : Comparing → Comparing → Comparing
 after c more = record {
@@ -126,6 +134,12 @@ compareOf room n d lends rends s t = turnsWithin (suc (length s + length t)) roo
 
 abbrev pub shown : Comparing → Compared
 shown c = record { left = c .left; right = c .right; agree = c .agree; differ = c .differ; written = length (c .text); wants = c .wants }
+
+-- no more is done with than there is, and no more is written than there is room for
+pub record Within (left right room : ℕ) (r : Compared) : Type 0 where
+  pub left-in : r .left ≤ left
+  pub right-in : r .right ≤ right
+  pub written-in : r .written ≤ room
 
 -- its result, and the buffer, which is kept behind the text
 abbrev pub filledOf : List ℕ → Bool → List ℕ → Bool → ℕ → ℕ → List ℕ → Compared × List ℕ

@@ -5,7 +5,7 @@ use mathlib.Core.Path.{_≡_}
 use mathlib.Core.Bool.{Bool, true, false}
 use mathlib.Core.List.{List, [], _++_}
 use lib.ListN.{take, drop}
-use Rattle.comparing.specs.Call.{comparedOf}
+use Rattle.comparing.specs.Call.{isWhole, comparedOf}
 use Rattle.comparing.specs.declared.Compared.{Compared}
 
 -- one upload so far: all that was offered, what of it is still to be done with, and whether it has ended
@@ -36,7 +36,7 @@ pub record Lent (u : Upload) (input later : List ℕ) (ends : Bool) : Type 0 whe
 --   begin       nothing was offered
 --   offer-..    one more piece of a side that has not ended
 --   end-..      a side ends
---   call        a call of the code, over any buffer
+--   call        a call of the code, over any buffer, that did not end the text: `whole` of proofs/Runs is about the one that does
 pub data Run : Upload → Upload → ℕ → ℕ → List ℕ → Type 0 where
   begin : Run fresh fresh 0 0 []
   offer-left : {l r : Upload} {n d : ℕ} {text : List ℕ} (piece : List ℕ) → l .ends ≡ false → Run l r n d text → Run (offered l piece) r n d text
@@ -45,5 +45,5 @@ pub data Run : Upload → Upload → ℕ → ℕ → List ℕ → Type 0 where
   end-right : {l r : Upload} {n d : ℕ} {text : List ℕ} → Run l r n d text → Run l (over r) n d text
   call : {l r : Upload} {n d : ℕ} {text : List ℕ} {left llater right rlater : List ℕ} (lends rends : Bool) (out : List ℕ) {outAfter : List ℕ} {c : Compared}
       → Run l r n d text → Lent l left llater lends → Lent r right rlater rends
-      → (c, outAfter) ≡ comparedOf left lends right rends n d out
+      → (c, outAfter) ≡ comparedOf left lends right rends n d out → isWhole (c .wants) ≡ false
       → Run (went l (drop (c .left) left ++ llater)) (went r (drop (c .right) right ++ rlater)) (c .agree) (c .differ) (text ++ take (c .written) outAfter)

@@ -13,7 +13,7 @@ use stream::LIMIT;
 ghost use mathlib.Core.Path.{_≡_};
 ghost use mathlib.Core.Bool.{true};
 ghost use lib.ListN.{length};
-ghost use Rattle.comparing.specs.Call.{isCounted, comparedOf, filledOf};
+ghost use Rattle.comparing.specs.Call.{isCounted, comparedOf, filledOf, Within};
 
 // What a comparison asks for.
 pub enum Wants {
@@ -59,7 +59,7 @@ fn fill(
     out: &mut [u8],
 ) -> Compared
     requires { ⌜ isCounted agree differ (length (now left)) (length (now right)) ≡ true ⌝ }
-    ensures { λ r. ⌜ (r, now (out .exit)) ≡ filledOf (now (left .entry)) «left_ends» (now (right .entry)) «right_ends» agree differ (now (out .entry)) ⌝ }
+    ensures { λ r. ⌜ ((r, now (out .exit)) ≡ filledOf (now (left .entry)) «left_ends» (now (right .entry)) «right_ends» agree differ (now (out .entry))) × Within (length (now (left .entry))) (length (now (right .entry))) (length (now (out .entry))) r ⌝ }
 {
     let mut places = [0u8; LIMIT];
     let mut l = 0;
@@ -117,7 +117,7 @@ pub fn compare_in(
     differ: u64,
     out: &mut [u8],
 ) -> Compared
-    ensures { λ r. ⌜ (r, now (out .exit)) ≡ comparedOf (now (left .entry)) «left_ends» (now (right .entry)) «right_ends» agree differ (now (out .entry)) ⌝ }
+    ensures { λ r. ⌜ ((r, now (out .exit)) ≡ comparedOf (now (left .entry)) «left_ends» (now (right .entry)) «right_ends» agree differ (now (out .entry))) × Within (length (now (left .entry))) (length (now (right .entry))) (length (now (out .entry))) r ⌝ }
 {
     if is_counted(agree, differ, left.len(), right.len()) {
         return fill(left, left_ends, right, right_ends, agree, differ, out);

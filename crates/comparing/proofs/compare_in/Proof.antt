@@ -1,5 +1,6 @@
 -- `comparing::compare_in` meets its contract. Assumes nothing.
 use mathlib.Core.Path.{sym, _∙_}
+use native.Mathlib.Omega.{arith}
 use Rattle.comparing.specs.Call.{comparedOf}
 use borrow.Author.Needs.{needs}
 use Rattle.comparing.proofs.compare_in.Statement.{statement}
@@ -19,11 +20,14 @@ unfolding comparedOf
 returns c =
     let put = c .before .before in
     let test = put .before .before in
-    rw (sym (test .before .is-counted .ensures) ∙ test .if1 .taken) (put .fill .ensures)
+    (rw (sym (test .before .is-counted .ensures) ∙ test .if1 .taken) (put .fill .ensures .0), put .fill .ensures .1)
 
 returns-2 : tie.Need-returns-2
 unfolding comparedOf
-returns-2 c = rw (sym (c .before .is-counted .ensures) ∙ c .if1 .left)
+returns-2 c = (
+  rw (sym (c .before .is-counted .ensures) ∙ c .if1 .left),
+  record { left-in = omega arith; right-in = omega arith; written-in = omega arith },
+)
 
 pub compare-in-spec : {M : Type 1} → statement M
 compare-in-spec =

@@ -13,7 +13,7 @@ use Rattle.stream.proofs.Loop.{unread-is}
 use Rattle.reading.specs.Positions.{greatest}
 use Rattle.comparing.specs.Call.{compareOf, turnOf, goesOn, longestTurn, isCounted}
 use Rattle.comparing.specs.Parts.{Turns}
-use Rattle.comparing.proofs.Filled.{Filling, begin, full, takes-left, takes-right, same-size, less, again, last}
+use Rattle.comparing.proofs.Filled.{Filling, begin, full, takes-left, takes-right, same-size, within-turn, less, again, last}
 use Rattle.comparing.proofs.fill.Statement.{statement}
 use Rattle.comparing.proofs.fill.Tie as tie
 
@@ -107,7 +107,10 @@ returns : tie.Need-returns Inv-loop μ-loop
 returns c =
     let turned = c .before .before .before .before .before .before in
     let at = turned .before .before .before .before .before .before in
-    last (at .loop .inv) (many turned) (turn turned) (not-true _ (not-as (c .before .goes-on .ensures) (c .if1 .taken)))
+    (
+      last (at .loop .inv) (many turned) (turn turned) (not-true _ (not-as (c .before .goes-on .ensures) (c .if1 .taken))),
+      within-turn (at .loop .inv) (many turned) (turn turned),
+    )
 
 loop-less : tie.Need-loop-less Inv-loop μ-loop
 loop-less c =
@@ -127,7 +130,11 @@ same-length-2 c = c .before .loop .inv .out-size
 returns-2 : tie.Need-returns-2 Inv-loop μ-loop
 returns-2 c =
     let at = c .before in
-    full (at .loop .inv) (omega (arith, c .loop-test .left, at .loop .inv .out-size))
+    let f = at .loop .inv in
+    (
+      full f (omega (arith, c .loop-test .left, f .out-size)),
+      record { left-in = f .left-in; right-in = f .right-in; written-in = f .room },
+    )
 
 pub fill-spec : {M : Type 1} → statement M
 fill-spec =

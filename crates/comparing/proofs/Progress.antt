@@ -1,0 +1,96 @@
+-- A comparison is never stuck: more of an upload is asked for only where fewer bytes are left of it than a frame may have, and more may come; and room
+-- only where there is none for the longest lines.
+-- Assumes nothing.
+use mathlib.Core.Path.{_≡_, refl, sym, ap, _∙_}
+use mathlib.Core.Bool.{Bool, true, false, true≢false, _&&_, not}
+use mathlib.Core.List.{List, _++_}
+use Prim.Native.Nat.{ℕ, zero, suc, _+_, _-_, _≤_, _<_}
+use native.Mathlib.Omega.{arith}
+use borrow.Author.Tests.{ltb-true, not-true}
+use lib.Dec.{ltb}
+use lib.ListN.{length, drop, length-append, length-drop}
+use lib.Seq.{drop-drop}
+use Rattle.base.specs.Choice.{if_then_else_}
+use Rattle.base.proofs.Tests.{by-test}
+use Rattle.reading.specs.Reading.{limit, First, stops, first}
+use Rattle.comparing.specs.Call.{Comparing, stays, hungry, turnOf, goesOn, after, longestTurn, turnsWithin, compareOf}
+use Rattle.comparing.specs.declared.Wants.{Wants}
+use Rattle.comparing.specs.declared.Wants.the-variants.{Left, Right, Room, Nothing, Refused}
+use Rattle.comparing.proofs.Found.{and-left, and-right, short-side}
+use Rattle.comparing.proofs.Filled.{by-turn, Sized, sized}
+
+-- what it is to ask for more of a side
+abbrev wantsLeft : Wants → Bool
+wantsLeft Left = true
+wantsLeft Right = false
+wantsLeft Room = false
+wantsLeft Nothing = false
+wantsLeft (Refused r) = false
+
+abbrev wantsRight : Wants → Bool
+wantsRight Left = false
+wantsRight Right = true
+wantsRight Room = false
+wantsRight Nothing = false
+wantsRight (Refused r) = false
+
+pub record Hungry (room : ℕ) (lends rends : Bool) (s t : List ℕ) (c : Comparing) : Type 0 where
+  pub left : c .wants ≡ Left → (lends ≡ false) × (length (drop (c .left) s) < limit)
+  pub right : c .wants ≡ Right → (rends ≡ false) × (length (drop (c .right) t) < limit)
+  pub full : c .wants ≡ Room → room < length (c .text) + longestTurn
+
+asked : (ends : Bool) (s : List ℕ) → hungry ends (first limit s) ≡ true → (ends ≡ false) × (length s < limit)
+asked ends s e =
+    let few = short-side s (and-left (stops (first limit s)) (not ends) e) in
+    (not-true ends (and-right (stops (first limit s)) (not ends) e), omega (arith, few))
+
+-- one turn: what it asks for, where it does not go on
+turn-asks : (n d : ℕ) (lends rends : Bool) (s t : List ℕ)
+    → (let c = turnOf n d lends rends s t in
+    (c .wants ≡ Left → (lends ≡ false) × (length (drop (c .left) s) < limit)) × (c .wants ≡ Right → (rends ≡ false) × (length (drop (c .right) t) < limit)))
+turn-asks n d lends rends s t =
+    by-turn n d lends rends s t
+    (λ (c : Comparing).
+    (c .wants ≡ Left → (lends ≡ false) × (length (drop (c .left) s) < limit)) × (c .wants ≡ Right → (rends ≡ false) × (length (drop (c .right) t) < limit)))
+    (λ e. (λ _. asked lends s e, λ q. absurd (true≢false (ap wantsLeft q))))
+    (λ fed e. (λ q. absurd (true≢false (ap wantsRight q)), λ _. asked rends t e))
+    (λ fed fed′ e. (λ q. absurd (true≢false (sym (ap wantsLeft q))), λ q. absurd (true≢false (sym (ap wantsRight q)))))
+    (λ fed fed′ e. (λ q. absurd (true≢false (sym (ap wantsLeft q))), λ q. absurd (true≢false (sym (ap wantsRight q)))))
+
+-- a turn that goes on, and then a comparison of what it leaves
+asks-after : {room : ℕ} {lends rends : Bool} {s t : List ℕ} (c more : Comparing)
+    → Hungry (room - length (c .text)) lends rends (drop (c .left) s) (drop (c .right) t) more → Hungry room lends rends s t (after c more)
+asks-after {s = s} {t} c more h = record {
+  left = λ e. let few = h .left e in (few .0, omega (arith, few .1, ap length (drop-drop (more .left) (c .left) s)));
+  right = λ e. let few = h .right e in (few .0, omega (arith, few .1, ap length (drop-drop (more .right) (c .right) t)));
+  full = λ e. omega (arith, h .full e, length-append (c .text) (more .text));
+}
+
+turns-ask : (most room n d : ℕ) (lends rends : Bool) (s t : List ℕ) → length s + length t < most
+    → Hungry room lends rends s t (turnsWithin most room n d lends rends s t)
+unfolding turnsWithin
+turns-ask zero room n d lends rends s t h = absurd (omega arith)
+turns-ask (suc most) room n d lends rends s t h =
+    let c = turnOf n d lends rends s t in
+    let size = sized n d lends rends s t in
+    by-test (ltb room longestTurn)
+    (λ short.
+    rw short
+    (record {
+      left = λ q. absurd (true≢false (sym (ap wantsLeft q)));
+      right = λ q. absurd (true≢false (sym (ap wantsRight q)));
+      full = λ q. omega (arith, ltb-true room longestTurn short);
+    }))
+    (λ many.
+    by-test (goesOn (c .wants))
+    (λ onward.
+    rw (many, onward)
+    (asks-after c _
+    (turns-ask most (room - length (c .text)) (c .agree) (c .differ) lends rends (drop (c .left) s) (drop (c .right) t)
+    (omega (arith, size .some onward, size .left-in, size .right-in, length-drop (c .left) s, length-drop (c .right) t)))))
+    (λ done.
+    let asks = turn-asks n d lends rends s t in
+    rw (many, done) (record { left = asks .0; right = asks .1; full = λ q. absurd (true≢false (sym (ap goesOn q) ∙ done)) })))
+
+pub never-stuck : (room n d : ℕ) (lends rends : Bool) (s t : List ℕ) → Hungry room lends rends s t (compareOf room n d lends rends s t)
+never-stuck room n d lends rends s t = turns-ask (suc (length s + length t)) room n d lends rends s t (omega arith)
