@@ -1,7 +1,7 @@
 /*
  * Faults for the tests of the programs. Loaded before the C library (LD_PRELOAD), it answers a program's reads as the variable READS says, and its
  * writes to standard output as WRITES says, word by word: a number moves at most that many bytes, E and a number fails with that errno. Behind the
- * last word all is as usual.
+ * last word all is as usual. Where READS_OF is set, READS speaks of that descriptor alone.
  */
 #define _GNU_SOURCE
 #include <errno.h>
@@ -28,6 +28,9 @@ static long turn(const char **at, size_t n)
 ssize_t read(int fd, void *bytes, size_t n)
 {
     static const char *at, *words;
+    const char *of = getenv("READS_OF");
+    if (of && fd != atoi(of))
+        return syscall(SYS_read, fd, bytes, n);
     if (!words)
         at = words = getenv("READS") ? getenv("READS") : "";
     const long most = turn(&at, n);
