@@ -177,5 +177,16 @@ pub(crate) fn turn(
         };
     }
     let b = next_of(places, right);
-    turn_by(a, left, left_ends, b, right, right_ends, agree, differ, out, at)
+    turn_by(
+        a,
+        left,
+        left_ends,
+        b,
+        right,
+        right_ends,
+        agree,
+        differ,
+        out,
+        at,
+    )
 }

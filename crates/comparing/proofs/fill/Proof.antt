@@ -106,8 +106,7 @@ same-length c =
 returns : tie.Need-returns Inv-loop μ-loop
 returns c =
     let turned = c .before .before .before .before .before .before in
-    let at = turned .before .before .before .before .before .before in
-    (
+    let at = turned .before .before .before .before .before .before in (
       last (at .loop .inv) (many turned) (turn turned) (not-true _ (not-as (c .before .goes-on .ensures) (c .if1 .taken))),
       within-turn (at .loop .inv) (many turned) (turn turned),
     )
@@ -130,8 +129,7 @@ same-length-2 c = c .before .loop .inv .out-size
 returns-2 : tie.Need-returns-2 Inv-loop μ-loop
 returns-2 c =
     let at = c .before in
-    let f = at .loop .inv in
-    (
+    let f = at .loop .inv in (
       full f (omega (arith, c .loop-test .left, f .out-size)),
       record { left-in = f .left-in; right-in = f .right-in; written-in = f .room },
     )

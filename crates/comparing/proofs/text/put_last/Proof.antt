@@ -121,8 +121,7 @@ returns c =
     let u = puts-within 1
     (omega (arith, start .pre, p .next, s .next, some second, one, two, three, four, few, few-2)) (text .put-text3 .ensures) in
     let last : Puts (differ .put-text2 .last .1 .0) (differ .put-text2 .result) (decimal d ++ lineEnd) (text .put-text3 .last .1 .0) (text .put-text3 .result) =
-    puts-over (decimal d) 32 (omega (arith, start .pre, p .next, s .next, one, two, three, few, few-2, t .next, length-leading d)) (omega arith) t u in
-    (
+    puts-over (decimal d) 32 (omega (arith, start .pre, p .next, s .next, one, two, three, few, few-2, t .next, length-leading d)) (omega arith) t u in (
       puts-then (omega (arith, start .pre)) p
           (puts-then (omega (arith, start .pre, p .next, one, few, q .next)) q
           (puts-then (omega (arith, start .pre, p .next, one, two, few)) s last)),

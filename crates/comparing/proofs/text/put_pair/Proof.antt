@@ -90,8 +90,7 @@ returns c =
     let q = left .put-side .ensures in
     let s = over text in
     let t = right .put-side2 .ensures in
-    let most : right .put-side2 .result ≤ start .args .at + longestPair = omega (arith, position .put-position .ensures .1, q .1 .1, q .1 .0, s .next, t .1 .1) in
-    (
+    let most : right .put-side2 .result ≤ start .args .at + longestPair = omega (arith, position .put-position .ensures .1, q .1 .1, q .1 .0, s .next, t .1 .1) in (
       puts-beside l r
           (omega (arith, start .pre .1, most, p .next, q .0 .next, q .1 .0, s .next, t .0 .next, length-append l lineEnd, length-append r lineEnd))
           p (q .0) s (t .0),

@@ -80,8 +80,7 @@ returns c =
     let s = over text in
     let there : text .put-text2 .result + longest ≤ length (text .put-text2 .last .1 .0) = omega (arith, start .pre, p .next, left .put-held .ensures .1, some left, s .next, first .put-text .kept .1 .0, left .put-held .kept .1 .0, text .put-text2 .kept .1 .0) in
     let t = puts-as (sym (held-ends (start .args .right))) (puts-within longest there (right .put-held2 .ensures .0)) in
-    let most : right .put-held2 .result ≤ start .args .at + longestTails = omega (arith, p .next, left .put-held .ensures .1, some left, s .next, right .put-held2 .ensures .1) in
-    (
+    let most : right .put-held2 .result ≤ start .args .at + longestTails = omega (arith, p .next, left .put-held .ensures .1, some left, s .next, right .put-held2 .ensures .1) in (
       puts-beside l r (omega (arith, start .pre, most, p .next, q .next, some left, s .next, t .next, length-append l lineEnd, length-append r lineEnd)) p q s t,
       most,
     )

@@ -68,8 +68,7 @@ close-requires c κs =
     let done = c .before in
     let start = done .before .before .before .before .before .before .before .before .before in
     let a = start .args in
-    let stop = sym (both (done .before)) ∙ done .if3 .taken in
-    (
+    let stop = sym (both (done .before)) ∙ done .if3 .taken in (
       (short-side (a .left .now) (and-left _ _ stop), short-side (a .right .now) (and-right (stops (first limit (a .left .now))) _ stop)),
       start .pre .1,
     )

@@ -1,0 +1,3 @@
+fn main() {
+    diff_io::crsf_diff();
+}
