@@ -1,8 +1,8 @@
 //! Links the port's archive, libhost.a, from the folder that HOST_ARCHIVE names; and, where BEFORE_ARCHIVE names a folder, the earlier archive in it,
-//! libbefore.a, whose symbols compare/run has given the prefix `before_`.
+//! libbefore.a, whose symbols oracle/run has given the prefix `before_`.
 fn main() {
     println!("cargo:rustc-check-cfg=cfg(before)");
-    link("HOST_ARCHIVE", "host").expect("HOST_ARCHIVE names the folder of libhost.a: compare/run sets it");
+    link("HOST_ARCHIVE", "host").expect("HOST_ARCHIVE names the folder of libhost.a: oracle/run sets it");
     if link("BEFORE_ARCHIVE", "before").is_some() {
         println!("cargo:rustc-cfg=before");
     }

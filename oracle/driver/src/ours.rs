@@ -125,7 +125,7 @@ macro_rules! entries {
             Entries { $($name,)* $($new,)* }
         };
 
-        /// The archive that `compare/run --before` names, its symbols with `before_` in front.
+        /// The archive that `oracle/run --before` names, its symbols with `before_` in front.
         #[cfg(before)]
         pub static BEFORE: Entries = {
             extern "C" {
@@ -273,7 +273,7 @@ lent! {
         crsf_write_rc_channels_burst(b.as_mut_ptr(), b.len(), dest, channels.as_ptr(), channels.len(), count);
 }
 
-// Entries that an archive of `compare/run --before` may lack: these stand in no table.
+// Entries that an archive of `oracle/run --before` may lack: these stand in no table.
 extern "C" {
     fn crsf_channel_microseconds(raw: u16, out: *mut u32, out_len: usize) -> Answer;
     fn crsf_raw_view(bytes: *const u8, len: usize) -> u64;

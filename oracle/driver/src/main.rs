@@ -1,4 +1,4 @@
-//! Runs the Rust original and the port on the same inputs and compares every answer; or times both. compare/run starts it.
+//! Runs the Rust original and the port on the same inputs and compares every answer; or times both. oracle/run starts it.
 mod bench;
 mod beyond;
 mod bursts;
@@ -38,7 +38,7 @@ struct Options {
     before_list: Option<String>,
 }
 
-const USAGE: &str = "compare/run [--seed N] [--bytes N] [--bench [--before DIR]] [--record FILE] [--rust DIR] [--archive DIR]";
+const USAGE: &str = "oracle/run [--seed N] [--bytes N] [--bench [--before DIR]] [--record FILE] [--rust DIR] [--archive DIR]";
 
 fn number(text: &str) -> u64 {
     text.parse::<f64>().ok().filter(|n| *n >= 0.0).unwrap_or_else(|| panic!("{text} is no number; usage: {USAGE}")) as u64
@@ -89,7 +89,7 @@ fn listing(o: &Options) -> Listing {
         before: o.before_list.clone().map(command),
         ours: o.list.clone().map(command),
         ours_where: o.list_where.clone().map(command),
-        file: o.root.join("target/compare/stream"),
+        file: o.root.join("target/oracle/stream"),
     }
 }
 
