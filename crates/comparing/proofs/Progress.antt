@@ -1,7 +1,7 @@
 -- A comparison is never stuck: more of an upload is asked for only where fewer bytes are left of it than a frame may have, and more may come; and room
 -- only where there is none for the longest lines.
 -- Assumes nothing.
-use mathlib.Core.Path.{_≡_, refl, sym, ap, _∙_}
+use mathlib.Core.Path.{_≡_, sym, ap, _∙_, subst}
 use mathlib.Core.Bool.{Bool, true, false, true≢false, _&&_, not}
 use mathlib.Core.List.{List, _++_}
 use Prim.Native.Nat.{ℕ, zero, suc, _+_, _-_, _≤_, _<_}
@@ -11,9 +11,12 @@ use lib.Dec.{ltb}
 use lib.ListN.{length, drop, length-append, length-drop}
 use lib.Seq.{drop-drop}
 use Rattle.base.specs.Choice.{if_then_else_}
+use Rattle.base.specs.Parts.{pasted}
 use Rattle.base.proofs.Tests.{by-test}
+use Rattle.refusals.specs.declared.Refusal.the-variants.{PositionRange}
 use Rattle.reading.specs.Reading.{limit, First, stops, first}
-use Rattle.comparing.specs.Call.{Comparing, stays, hungry, turnOf, goesOn, after, longestTurn, turnsWithin, compareOf}
+use Rattle.comparing.specs.Call.{Comparing, stays, hungry, turnOf, goesOn, after, longestTurn, turnsWithin, compareOf, shown, isCounted, comparedOf}
+use Rattle.comparing.specs.declared.Compared.{Compared}
 use Rattle.comparing.specs.declared.Wants.{Wants}
 use Rattle.comparing.specs.declared.Wants.the-variants.{Left, Right, Room, Nothing, Refused}
 use Rattle.comparing.proofs.Found.{and-left, and-right, short-side}
@@ -94,3 +97,29 @@ turns-ask (suc most) room n d lends rends s t h =
 
 pub never-stuck : (room n d : ℕ) (lends rends : Bool) (s t : List ℕ) → Hungry room lends rends s t (compareOf room n d lends rends s t)
 never-stuck room n d lends rends s t = turns-ask (suc (length s + length t)) room n d lends rends s t (omega arith)
+
+-- a call, by what it shows
+pub record Asks (left right : List ℕ) (lends rends : Bool) (room : ℕ) (c : Compared) : Type 0 where
+  pub more-left : c .wants ≡ Left → (lends ≡ false) × (length (drop (c .left) left) < limit)
+  pub more-right : c .wants ≡ Right → (rends ≡ false) × (length (drop (c .right) right) < limit)
+  pub more-room : c .wants ≡ Room → room < c .written + longestTurn
+
+pub call-asks : (left right : List ℕ) (lends rends : Bool) (n d : ℕ) (out : List ℕ) {outAfter : List ℕ} {c : Compared}
+    → (c, outAfter) ≡ comparedOf left lends right rends n d out → Asks left right lends rends (length out) c
+unfolding comparedOf
+call-asks left right lends rends n d out {outAfter} {c} is =
+    by-test (isCounted n d (length left) (length right))
+    (λ good.
+    let k = compareOf (length out) n d lends rends left right in
+    let e : _≡_ {A = Compared × List ℕ} (c, outAfter) (shown k, pasted out 0 (k .text)) = is ∙ rw good in
+    let h = never-stuck (length out) n d lends rends left right in
+    subst (Asks left right lends rends (length out)) (sym (ap (λ (x : Compared × List ℕ). x .0) e))
+    (record { more-left = h .left; more-right = h .right; more-room = h .full }))
+    (λ bad.
+    let e : _≡_ {A = Compared × List ℕ} (c, outAfter) (shown (stays n d (Refused PositionRange)), out) = is ∙ rw bad in
+    subst (Asks left right lends rends (length out)) (sym (ap (λ (x : Compared × List ℕ). x .0) e))
+    (record {
+      more-left = λ q. absurd (true≢false (sym (ap wantsLeft q)));
+      more-right = λ q. absurd (true≢false (sym (ap wantsRight q)));
+      more-room = λ q. absurd (true≢false (sym (ap goesOn q)));
+    }))

@@ -1,32 +1,29 @@
+-- `diff_io::compare_part` meets its contract. Assumes nothing.
+use mathlib.Core.Path.{sym}
+use native.Mathlib.Omega.{arith}
+use lib.Seq.{length-take-le}
 use borrow.Author.Needs.{needs}
 use Rattle.diff_io.proofs.compare_part.Statement.{statement}
 use Rattle.diff_io.proofs.compare_part.Tie as tie
-use Rattle.diff_io.proofs.compare_part.Reads as reads
-use Rattle.diff_io.proofs.compare_part.Lts as lts
-use Rattle.comparing.proofs.compare_in.Reads as compare-in-reads
-use Rattle.program.proofs.print.Reads as print-reads
 
--- src/lib.rt:107:9
 compare-in-requires : tie.Need-compare-in-requires
 compare-in-requires c κs = search needs
 
--- src/lib.rt:108:28
 slice-reshare-prefix-print : tie.Need-slice-reshare-prefix-print
 slice-reshare-prefix-print c = search needs
 
--- src/lib.rt:108:28
 slice-aggregate-print : tie.Need-slice-aggregate-print
-slice-aggregate-print c = ?
+slice-aggregate-print c =
+    let part = c .before .before .before in
+    sym (length-take-le (part .compare-in .result .written) (part .compare-in .last .1 .1 .1 .1 .1 .1 .0)
+    (omega (arith, part .compare-in .ensures .1 .written-in, part .compare-in .kept .1 .1 .1 .1 .1 .1 .0)))
 
--- src/lib.rt:108:9
 print-requires : tie.Need-print-requires
 print-requires c κs = search needs
 
--- src/lib.rt:96:1
 same-length : tie.Need-same-length
 same-length c = search needs
 
--- src/lib.rt:96:1
 returns : tie.Need-returns
 returns c = search needs
 

@@ -1,25 +1,34 @@
+-- `diff_io::feed` meets its contract. Assumes nothing.
+use mathlib.Core.Path.{refl, sym, _∙_}
+use mathlib.Core.Bool.{true≢false}
+use native.Mathlib.Omega.{arith}
 use borrow.Author.Needs.{needs}
 use Rattle.diff_io.proofs.feed.Statement.{statement}
 use Rattle.diff_io.proofs.feed.Tie as tie
-use Rattle.diff_io.proofs.feed.Reads as reads
-use Rattle.diff_io.proofs.feed.Lts as lts
-use Rattle.diff_io.proofs.refill.Reads as refill-reads
 
--- src/lib.rt:85:9
 refill-requires : tie.Need-refill-requires
-refill-requires c κs = ?
+refill-requires c κs = let test = c .before in test .before .before .pre .1 (test .if1 .taken)
 
--- src/lib.rt:85:9
 same-length : tie.Need-same-length
 same-length c = search needs
 
--- src/lib.rt:85:9
 returns : tie.Need-returns
-returns c = ?
+returns c =
+    let fed = c .before .before in
+    let test = fed .before .before in
+    let fills = fed .refill .ensures in
+    record {
+      sound = record { ordered = omega (arith, fills .first); inside = fills .inside };
+      stays = λ e. absurd (true≢false (sym (test .if1 .taken) ∙ e));
+      fills = λ e. fills;
+    }
 
--- src/lib.rt:80:1
 returns-2 : tie.Need-returns-2
-returns-2 c = ?
+returns-2 c = record {
+  sound = c .before .before .pre .0;
+  stays = λ e. (refl, refl);
+  fills = λ e. absurd (true≢false (sym e ∙ c .if1 .left));
+}
 
 pub feed-spec : {M : Type 1} → statement M
 feed-spec = tie.close (tie.spec refill-requires same-length returns returns-2)
