@@ -8,6 +8,7 @@ mod listing;
 mod logs;
 mod medians;
 mod ours;
+mod pairs;
 mod positions;
 mod queries;
 mod record;
@@ -15,6 +16,7 @@ mod records;
 mod report;
 
 use listing::Listing;
+use pairs::Programs;
 use report::Report;
 
 struct Options {
@@ -24,6 +26,8 @@ struct Options {
     root: std::path::PathBuf,
     /// Whether both sides are timed, and not compared.
     bench: bool,
+    /// Whether the comparison of two uploads is timed, and nothing else.
+    bench_diff: bool,
     /// One run of the timing, by itself.
     once: bool,
     /// Where the sample of the Rust's answers is written, and nothing is compared.
@@ -36,9 +40,11 @@ struct Options {
     list_where: Option<String>,
     /// An earlier one, to be timed too.
     before_list: Option<String>,
+    /// The port's comparison of two uploads.
+    diff: Option<String>,
 }
 
-const USAGE: &str = "oracle/run [--seed N] [--bytes N] [--bench [--before DIR]] [--record FILE] [--rust DIR] [--archive DIR]";
+const USAGE: &str = "oracle/run [--seed N] [--bytes N] [--bench [--before DIR]] [--bench-diff] [--record FILE] [--rust DIR] [--archive DIR]";
 
 fn number(text: &str) -> u64 {
     text.parse::<f64>().ok().filter(|n| *n >= 0.0).unwrap_or_else(|| panic!("{text} is no number; usage: {USAGE}")) as u64
@@ -50,12 +56,14 @@ fn options() -> Options {
         bytes: 20_000_000,
         root: ".".into(),
         bench: false,
+        bench_diff: false,
         once: false,
         record: None,
         emulator: vec![],
         list: None,
         list_where: None,
         before_list: None,
+        diff: None,
     };
     let mut words = std::env::args().skip(1);
     while let Some(word) = words.next() {
@@ -68,12 +76,14 @@ fn options() -> Options {
             "--bytes" => o.bytes = number(&next()),
             "--root" => o.root = next().into(),
             "--bench" => o.bench = true,
+            "--bench-diff" => o.bench_diff = true,
             "--once" => o.once = true,
             "--record" => o.record = Some(next()),
             "--emulator" => o.emulator = vec![next()],
             "--list" => o.list = Some(next()),
             "--where" => o.list_where = Some(next()),
             "--before-list" => o.before_list = Some(next()),
+            "--diff" => o.diff = Some(next()),
             other => panic!("{other}? usage: {USAGE}"),
         }
     }
@@ -93,6 +103,18 @@ fn listing(o: &Options) -> Listing {
     }
 }
 
+/// The programs that are timed on two uploads.
+fn programs(o: &Options) -> Programs {
+    let Listing { rust, ours, .. } = listing(o);
+    let diff = o.diff.clone().expect("--bench-diff wants --diff");
+    Programs {
+        diff: [o.emulator.clone(), vec![diff]].concat(),
+        list: ours.expect("--bench-diff wants --list"),
+        rust_list: rust,
+        folder: o.root.join("target/oracle/pairs"),
+    }
+}
+
 /// The command that makes one run of the timing.
 fn this_program_once(o: &Options) -> Vec<String> {
     let this = std::env::current_exe().expect("this program has a name").to_string_lossy().into_owned();
@@ -107,6 +129,9 @@ fn main() {
     }
     if o.bench {
         return medians::run(&this_program_once(&o), !o.emulator.is_empty());
+    }
+    if o.bench_diff {
+        return pairs::time(&programs(&o), o.seed, !o.emulator.is_empty());
     }
     if let Some(file) = &o.record {
         let (sample, cases) = record::sample(o.seed);

@@ -41,7 +41,7 @@ fn ratio(numbers: impl Iterator<Item = f64> + Clone) -> String {
     format!("{:.2} | {least:.2} to {greatest:.2}", median(numbers))
 }
 
-fn heading(columns: &[String]) {
+pub fn heading(columns: &[String]) {
     println!("| {} |\n|{}", columns.join(" | "), "---|".repeat(columns.len()));
 }
 
@@ -144,11 +144,11 @@ fn bursts(runs: &[Vec<Row>]) {
     }
 }
 
-fn load() -> String {
+pub fn load() -> String {
     std::fs::read_to_string("/proc/loadavg").map_or_else(|_| "unknown".to_string(), |text| text.split(' ').take(3).collect::<Vec<_>>().join(" "))
 }
 
-fn machine() -> String {
+pub fn machine() -> String {
     let text = std::fs::read_to_string("/proc/cpuinfo").unwrap_or_default();
     let model = text.lines().find_map(|line| line.strip_prefix("model name")?.split_once(':'));
     model.map_or_else(|| "unknown".to_string(), |(_, name)| name.trim().to_string())
