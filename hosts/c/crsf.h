@@ -60,7 +60,7 @@
 #define CRSF_VERSION_MAJOR 0
 #define CRSF_VERSION_MINOR 7
 #define CRSF_VERSION_PATCH 0
-#define CRSF_VERSION "0.7.0"
+#define CRSF_VERSION "0.8.0"
 
 #ifdef __cplusplus
 extern "C" {

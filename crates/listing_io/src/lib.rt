@@ -282,7 +282,7 @@ pub extern "C" fn crsf_list() -> u8
         false,
         b"list",
         b"usage: list [FILE]; list --help says more\n",
-        b"list 0.7.0\n",
+        b"list 0.8.0\n",
     )
 }
 
@@ -295,6 +295,6 @@ pub fn list_where() -> u8
         true,
         b"where",
         b"usage: where [FILE]; where --help says more\n",
-        b"where 0.7.0\n",
+        b"where 0.8.0\n",
     )
 }

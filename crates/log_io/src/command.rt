@@ -91,7 +91,7 @@ pub(crate) fn command() -> u8
         Asked::Input => list_from(STDIN_FILENO, b"standard input"),
         Asked::File => list_file(&word[..arguments.len]),
         Asked::Help => after_print(b"log", print_help()),
-        Asked::Version => after_print(b"log", print(b"log 0.7.0\n")),
+        Asked::Version => after_print(b"log", print(b"log 0.8.0\n")),
         Asked::Failed => 1,
         Asked::Refused => 2,
     }
