@@ -1,19 +1,17 @@
 -- Whether two answers agree, by number, values and bytes.
 -- Assumes nothing.
 use mathlib.Core.Path.{_≡_, refl, sym, ap, ap₂, _∙_}
-use mathlib.Core.Bool.{Bool, true, false, true≢false, _&&_, and-true}
+use mathlib.Core.Bool.{Bool, true, false, _&&_, and-eq-true-iff}
 use mathlib.Core.List.{List, [], _∷_}
 use Prim.Native.Nat.{ℕ}
 use native.Mathlib.Omega.{arith}
 use lib.Dec.{eqb}
-use lib.ListN.{length, getD, take}
+use lib.ListN.{getD, take}
 use borrow.Author.Tests.{eqb-true, eq-eqb, ne-eqb}
 use Rattle.base.specs.Choice.{if_then_else_}
 use Rattle.base.specs.Same.{sameBytes}
-use Rattle.base.proofs.Tests.{by-test}
-use Rattle.refusals.specs.Row.{rowOf, structOf}
-use Rattle.refusals.specs.declared.Row.{Row}
-use Rattle.reading.specs.Answer.{Answer, InvalidSync, InvalidPacketLength, InvalidCrc, row, calculated, carried, drops, candidate}
+use Rattle.refusals.specs.Row.{structOf}
+use Rattle.reading.specs.Answer.{InvalidSync, InvalidPacketLength, InvalidCrc, row, calculated, carried, drops, candidate}
 use Rattle.reading.specs.Answer as reading
 use Rattle.reading.specs.Reading.{limit, First, stop, says, first}
 use Rattle.reading.specs.Call.{droppedBy}
@@ -24,7 +22,6 @@ use Rattle.stream.specs.declared.step.Reply.the-variants.{More, Frame, Refused}
 use Rattle.pairs.specs.Pairs.{pair, sideOf, sideRow, agrees}
 use Rattle.comparing.specs.Next.{Finds, headOf, sameRow}
 use Rattle.comparing.specs.declared.next.Next.{Next}
-use Rattle.comparing.proofs.Found.{and-left}
 
 -- ---- The head of what is said is that of what the reading has first
 
@@ -147,7 +144,7 @@ module _ {left right : List ℕ} {a b : Next} (p : Finds left a) (q : Finds righ
 
   pub same-frames : same ≡ true → getD (headOf (a .reply)) 0 0 ≡ 0 → sameBytes (take (a .size) left) (take (b .size) right) ≡ agree
   same-frames e none =
-      let numbers = eqb-true (getD (headOf (a .reply)) 0 0) (getD (headOf (b .reply)) 0 0) (and-left _ _ e) in
+      let numbers = eqb-true (getD (headOf (a .reply)) 0 0) (getD (headOf (b .reply)) 0 0) (and-eq-true-iff _ _ .0 e .0) in
       let l : bytesOf f ≡ take (a .size) left =
       bytes-are left f refl (ap (λ (x : List ℕ). getD x 0 0) (sym head-left) ∙ none) ∙ ap (λ (n : ℕ). take n left) (sym (p .size-is)) in
       let r : bytesOf g ≡ take (b .size) right =

@@ -1,29 +1,23 @@
 -- What a call writes and counts, and then the text of what it leaves, is the text: whatever is still to come of an upload that has not ended.
 -- Assumes nothing.
 use mathlib.Core.Path.{_≡_, refl, sym, ap, ap₂, _∙_}
-use mathlib.Core.Bool.{Bool, true, false, true≢false, _&&_, not}
-use mathlib.Core.List.{List, [], _∷_, _++_, append-assoc, append-nil}
+use mathlib.Core.Bool.{Bool, true, false, true≢false, _&&_, and-eq-true-iff}
+use mathlib.Core.List.{List, [], _++_, append-assoc, append-nil}
 use Prim.Native.Nat.{ℕ, zero, suc, _+_, _-_}
-use native.Mathlib.Nat.{zero-add}
-use native.Mathlib.Omega.{arith}
 use lib.Dec.{ltb}
 use lib.ListN.{length, drop}
 use lib.Seq.{drop-drop}
-use Rattle.base.specs.Choice.{if_then_else_}
-use Rattle.base.specs.Same.{sameBytes}
 use Rattle.base.proofs.Tests.{by-test}
-use Rattle.reading.specs.Answer.{Answer}
 use Rattle.reading.specs.Reading.{limit, First, stop, says, stops, first, Reading, reading, _⊕_}
 use Rattle.reading.specs.Call.{droppedBy}
 use Rattle.reading.specs.History.{answered}
 use Rattle.reading.proofs.Reading.{at-stop, at-says-on}
-use Rattle.pairs.specs.Pairs.{pair, sideOf, agrees}
-use Rattle.pairs.specs.Comparison.{tailLine, lastLine, ifSame, ifOther, agreed, differed, textFrom}
+use Rattle.stream.proofs.Loop.{stops-by}
+use Rattle.pairs.specs.Comparison.{agreed, differed, textFrom}
 use Rattle.pairs.proofs.Steps.{next-pair, next-agreed, next-differed, at-end, end-agreed, end-differed}
 use Rattle.comparing.specs.Call.{Comparing, stays, settles, closes, hungry, turnOf, goesOn, isWhole, after, longestTurn, turnsWithin}
 use Rattle.comparing.specs.declared.Wants.{Wants}
 use Rattle.comparing.specs.declared.Wants.the-variants.{Left, Right, Room, Nothing, Refused}
-use Rattle.comparing.proofs.Found.{and-left, and-right, stop-by}
 use Rattle.comparing.proofs.Filled.{by-turn}
 
 -- text and counts of two readings, behind n pairs that agreed and d that differed
@@ -97,10 +91,10 @@ module _ (n d : ℕ) (lends rends : Bool) (s t x y : List ℕ) (p : lends ≡ tr
 
   closed : hungry lends f ≡ false → hungry rends g ≡ false → stops f && stops g ≡ true → Carried n d lends rends s t x y (closes n d s t)
   closed fed fed′ e =
-      let sf = and-left (stops f) (stops g) e in
-      let sg = and-right (stops f) (stops g) e in
-      let l = at-tail lends s x fed p (stop-by f sf) in
-      let r = at-tail rends t y fed′ q (stop-by g sg) in
+      let sf = and-eq-true-iff (stops f) (stops g) .0 e .0 in
+      let sg = and-eq-true-iff (stops f) (stops g) .0 e .1 in
+      let l = at-tail lends s x fed p (stops-by f sf) in
+      let r = at-tail rends t y fed′ q (stops-by g sg) in
       record {
         so-far = λ w. absurd (true≢false w);
         whole = λ w. ap₂ (tell n d) l r ∙ told-as (at-end n d s t) (ap (λ (k : ℕ). n + k) (end-agreed s t)) (ap (λ (k : ℕ). d + k) (end-differed s t));

@@ -2,17 +2,15 @@
 -- Assumes nothing.
 use mathlib.Core.Path.{_≡_, refl, sym, ap, ap₂, _∙_, subst}
 use mathlib.Core.Bool.{Bool, true, false, true≢false, _&&_}
-use mathlib.Core.List.{List, [], _∷_, _++_, append-assoc, append-nil}
+use mathlib.Core.List.{List, [], _++_, append-assoc, append-nil}
 use Prim.Native.Nat.{ℕ, zero, suc, _+_, _-_, _≤_, _<_}
 use native.Mathlib.Nat.{add-zero, add-assoc, zero-add, sub-zero}
 use native.Mathlib.Omega.{arith}
 use borrow.Author.Tests.{le-ltb, lt-ltb}
-use lib.Dec.{ltb}
-use lib.ListN.{length, drop, length-append, length-drop}
+use lib.ListN.{length, drop, length-drop}
 use lib.Seq.{drop-drop}
 use Rattle.base.specs.Parts.{pasted}
 use Rattle.base.proofs.Tests.{by-test}
-use Rattle.reading.specs.Answer.{drops}
 use Rattle.reading.specs.Reading.{limit, First, stop, says, stops, first}
 use Rattle.reading.specs.Call.{droppedBy}
 use Rattle.reading.specs.Positions.{greatest}
@@ -26,7 +24,7 @@ use Rattle.comparing.specs.Parts.{Turns}
 use Rattle.comparing.specs.declared.Compared.{Compared}
 use Rattle.comparing.specs.declared.turn.Turned.{Turned}
 use Rattle.comparing.specs.declared.Wants.{Wants}
-use Rattle.comparing.specs.declared.Wants.the-variants.{Left, Right, Room, Nothing}
+use Rattle.comparing.specs.declared.Wants.the-variants.{Left, Right, Room}
 use Rattle.comparing.proofs.Turned.{turn-left, turn-right, turn-closes, turn-settles}
 
 -- ---- A turn, by cases

@@ -1,7 +1,7 @@
 -- What the code finds first in what is left of an upload is what the reading has there.
 -- Assumes nothing.
 use mathlib.Core.Path.{_≡_, refl, sym, ap, _∙_, subst}
-use mathlib.Core.Bool.{Bool, true, false, true≢false, _&&_}
+use mathlib.Core.Bool.{Bool, true, false, true≢false}
 use mathlib.Core.List.{List, [], _∷_, _++_, append-nil}
 use Prim.Native.Nat.{ℕ, _≤_}
 use native.Mathlib.Omega.{arith}
@@ -21,28 +21,15 @@ use Rattle.stream.specs.declared.step.Reply.{Reply}
 use Rattle.stream.specs.declared.step.Reply.the-variants.{More, Frame, Refused}
 use Rattle.stream.specs.declared.step.Moved.{Moved}
 use Rattle.stream.proofs.Replies.{said-is, taken-is}
-use Rattle.stream.proofs.Loop.{asks-where-stops}
+use Rattle.stream.proofs.Loop.{stops-by, asks-where-stops}
 use Rattle.listing.proofs.Said.{line-is}
 use Rattle.lines.specs.Lines.{lineEnd, line, linesOf}
 use Rattle.lines.specs.Put.{lineBy}
 use Rattle.pairs.specs.Pairs.{sideOf}
-use Rattle.pairs.specs.Comparison.{dash, sideText}
+use Rattle.pairs.specs.Comparison.{sideText}
 use Rattle.comparing.specs.Next.{Finds, isFrame, Again}
 use Rattle.comparing.specs.declared.next.Next.{Next}
 use Rattle.comparing.proofs.Over.{line-ends}
-
-pub and-left : (a b : Bool) → a && b ≡ true → a ≡ true
-and-left true b e = refl
-and-left false b e = e
-
-pub and-right : (a b : Bool) → a && b ≡ true → b ≡ true
-and-right true b e = e
-and-right false b e = absurd (true≢false (sym e))
-
-pub stop-by : (f : First) → stops f ≡ true → f ≡ stop
-unfolding stops
-stop-by stop e = refl
-stop-by (says a) e = absurd (true≢false (sym e))
 
 -- ---- With nothing held, nothing said is of held bytes: so no place is looked at
 
@@ -120,7 +107,7 @@ module _ {before after input : List ℕ} {r : Moved} (size : length before ≡ l
 -- ---- Where there is no answer, fewer bytes are left than the limit
 
 pub short-side : (s : List ℕ) → stops (first limit s) ≡ true → length s ≤ 63
-short-side s e = let few = stops-short limit s (omega arith) (stop-by (first limit s) e) in omega (arith, few)
+short-side s e = let few = stops-short limit s (omega arith) (stops-by (first limit s) e) in omega (arith, few)
 
 -- ---- The text of a side, with a line's end behind it
 

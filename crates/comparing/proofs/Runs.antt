@@ -1,12 +1,11 @@
 -- Any run of the code, over any pieces of both uploads: what was written begins the text of the comparison, and with the call that ends it is all of it:
 -- no difference is missed, and none invented (RULES 19).
 -- Assumes nothing.
-use mathlib.Core.Path.{_≡_, refl, sym, ap, ap₂, _∙_, subst}
+use mathlib.Core.Path.{_≡_, refl, sym, ap, ap₂, _∙_}
 use mathlib.Core.Bool.{Bool, true, false, true≢false}
 use mathlib.Core.List.{List, [], _++_, append-assoc, append-nil}
 use Prim.Native.Nat.{ℕ, suc, _+_}
 use native.Mathlib.Nat.{zero-add}
-use native.Mathlib.Omega.{arith}
 use lib.ListN.{length, take, drop}
 use lib.Seq.{take-at}
 use Rattle.base.specs.Parts.{pasted}
@@ -23,7 +22,7 @@ use Rattle.comparing.proofs.Carried.{Told, tell, Carried, stayed, carri
 use Rattle.comparing.proofs.Carried as told
 
 -- a comparison, and what was shown of it
-pub record Shows (c : Compared) (out outAfter : List ℕ) (is : Comparing) : Type 0 where
+pub record Shows (c : Compared) (outAfter : List ℕ) (is : Comparing) : Type 0 where
   pub result : c ≡ shown is
   pub written : take (c .written) outAfter ≡ is .text
 
@@ -31,7 +30,7 @@ front : (out text : List ℕ) → take (length text) (pasted out 0 text) ≡ tex
 front out text = ap (take (length text)) (pasted-front out text) ∙ take-at text (drop (length text) out) (length text) refl
 
 shown-by : (out : List ℕ) {outAfter : List ℕ} {c : Compared} (k : Comparing)
-    → _≡_ {A = Compared × List ℕ} (c, outAfter) (shown k, pasted out 0 (k .text)) → Shows c out outAfter k
+    → _≡_ {A = Compared × List ℕ} (c, outAfter) (shown k, pasted out 0 (k .text)) → Shows c outAfter k
 shown-by out k e =
     let result = ap (λ (x : Compared × List ℕ). x .0) e in
     record {
@@ -42,7 +41,7 @@ shown-by out k e =
 -- a call is one of these, whatever it was lent
 module _ (left right : List ℕ) (lends rends : Bool) (n d : ℕ) (out : List ℕ) {outAfter : List ℕ} {c : Compared}
     (is : (c, outAfter) ≡ comparedOf left lends right rends n d out) where
-  pub any-call : {G : Type 0} → ((k : Comparing) → Shows c out outAfter k
+  pub any-call : {G : Type 0} → ((k : Comparing) → Shows c outAfter k
       → ((x y : List ℕ) → (lends ≡ true → x ≡ []) → (rends ≡ true → y ≡ []) → Carried n d lends rends left right x y k) → G) → G
   unfolding comparedOf
   any-call go =

@@ -1,10 +1,10 @@
--- One call of a comparison: turns, one after another, while there is room for the longest line (RULES 19). A turn looks at what stands first in what is
+-- One call of a comparison: turns, one after another, while there is room for the longest lines (RULES 19). A turn looks at what stands first in what is
 -- left of both uploads.
 -- Assumes nothing.
 use Prim.Native.Nat.{ℕ, zero, suc, _+_, _-_, _≤_}
 use mathlib.Core.Bool.{Bool, true, false, _&&_, not}
 use mathlib.Core.List.{List, [], _++_}
-use lib.Dec.{ltb, leb}
+use lib.Dec.{ltb}
 use lib.ListN.{length, drop}
 use Rattle.base.specs.Choice.{if_then_else_}
 use Rattle.base.specs.Same.{sameBytes}
@@ -12,7 +12,7 @@ use Rattle.base.specs.Parts.{pasted}
 use Rattle.refusals.specs.declared.Refusal.the-variants.{PositionRange}
 use Rattle.reading.specs.Reading.{limit, First, stops, first}
 use Rattle.reading.specs.Call.{droppedBy}
-use Rattle.reading.specs.Positions.{greatest}
+use Rattle.reading.specs.Positions.{isWithin}
 use Rattle.lines.specs.Lines.{longest, longestPosition}
 use Rattle.pairs.specs.Pairs.{pair, sideOf, agrees}
 use Rattle.pairs.specs.Comparison.{tailWord, agreeWord, differWord, bar, placeLine, tailLine, lastLine, ifSame, ifOther}
@@ -65,15 +65,14 @@ abbrev pub hungry : Bool → First → Bool
 hungry ends f = stops f && not ends
 
 -- more bytes are asked for, of the left upload first; where both have ended and no answer is left, all that is left is the tails; else there is a pair
-abbrev pub turnBy : ℕ → ℕ → Bool → Bool → List ℕ → List ℕ → First → First → Comparing
-turnBy n d lends rends s t f g =
+unfoldable pub turnOf : ℕ → ℕ → Bool → Bool → List ℕ → List ℕ → Comparing
+turnOf n d lends rends s t =
+    let f = first limit s in
+    let g = first limit t in
     if hungry lends f then stays n d Left else
     if hungry rends g then stays n d Right else
     if stops f && stops g then closes n d s t else
     settles n d f g
-
-unfoldable pub turnOf : ℕ → ℕ → Bool → Bool → List ℕ → List ℕ → Comparing
-turnOf n d lends rends s t = turnBy n d lends rends s t (first limit s) (first limit t)
 
 -- ---- As many as there is room for
 
@@ -96,6 +95,20 @@ goesOn Right = false
 goesOn Room = true
 goesOn Nothing = false
 goesOn (Refused r) = false
+
+abbrev pub wantsLeft : Wants → Bool
+wantsLeft Left = true
+wantsLeft Right = false
+wantsLeft Room = false
+wantsLeft Nothing = false
+wantsLeft (Refused r) = false
+
+abbrev pub wantsRight : Wants → Bool
+wantsRight Left = false
+wantsRight Right = true
+wantsRight Room = false
+wantsRight Nothing = false
+wantsRight (Refused r) = false
 
 -- nothing is to come
 abbrev pub isWhole : Wants → Bool
@@ -135,7 +148,8 @@ compareOf room n d lends rends s t = turnsWithin (suc (length s + length t)) roo
 abbrev pub shown : Comparing → Compared
 shown c = record { left = c .left; right = c .right; agree = c .agree; differ = c .differ; written = length (c .text); wants = c .wants }
 
--- no more is done with than there is, and no more is written than there is room for
+-- no more is done with than there is, and no more is written than there is room for. It follows from what is shown, and is promised beside it so that a
+-- caller need not prove how long a text is
 pub record Within (left right room : ℕ) (r : Compared) : Type 0 where
   pub left-in : r .left ≤ left
   pub right-in : r .right ≤ right
@@ -146,8 +160,8 @@ abbrev pub filledOf : List ℕ → Bool → List ℕ → Bool → ℕ → ℕ �
 filledOf s lends t rends n d out = let c = compareOf (length out) n d lends rends s t in (shown c, pasted out 0 (c .text))
 
 -- all pairs can be counted: those so far, as many as there are bytes, and the tails'
-unfoldable pub isCounted : ℕ → ℕ → ℕ → ℕ → Bool
-isCounted n d left right = leb (n + d + 1 + left + right) greatest
+abbrev pub isCounted : ℕ → ℕ → ℕ → ℕ → Bool
+isCounted n d left right = isWithin (n + d + 1) left right
 
 -- where they can't, nothing is changed
 unfoldable pub comparedOf : List ℕ → Bool → List ℕ → Bool → ℕ → ℕ → List ℕ → Compared × List ℕ

@@ -4,7 +4,6 @@ mod next;
 mod text;
 mod turn;
 
-use crate::text::LONGEST_TURN;
 use crate::turn::goes_on;
 use crate::turn::turn;
 use numbered::is_within;
@@ -15,12 +14,15 @@ ghost use mathlib.Core.Bool.{true};
 ghost use lib.ListN.{length};
 ghost use Rattle.comparing.specs.Call.{isCounted, comparedOf, filledOf, Within};
 
+// No turn writes more: the lines of the tails and of the counts. Where a buffer has fewer bytes, room is asked for.
+pub const LONGEST_TURN: usize = 95;
+
 // What a comparison asks for.
 pub enum Wants {
     // More bytes of the left upload, or of the right one: there is no answer in those that are left of it.
     Left,
     Right,
-    // Room for the longest line.
+    // Room for the longest lines that a turn writes.
     Room,
     // Nothing: the text is whole.
     Nothing,
@@ -48,7 +50,7 @@ fn is_counted(agree: u64, differ: u64, left: usize, right: usize) -> bool
     is_within(agree + differ + 1, left, right)
 }
 
-// Turns, while there is room for the longest line.
+// Turns, while there is room for the longest lines.
 fn fill(
     left: &[u8],
     left_ends: bool,

@@ -1,12 +1,10 @@
 // The lines of a comparison, at a place of a lent buffer that has room for them. Each function answers the place behind what it wrote.
 use crate::next::Next;
-use base::narrow;
 use lines::line::put_held;
 use lines::line::put_line;
 use lines::line::put_position;
 use lines::line::put_text;
 use stream::step::asks_for_more;
-ghost use mathlib.Core.Path.{_≡_};
 ghost use mathlib.Core.List.{_++_};
 ghost use Prim.Native.Nat.{_+_, _≤_, _<_};
 ghost use lib.ListN.{length};
@@ -17,9 +15,6 @@ ghost use Rattle.pairs.specs.Pairs.{sideOf};
 ghost use Rattle.pairs.specs.Comparison.{tailWord, bare, sideText, beside, lastLine};
 ghost use Rattle.comparing.specs.Next.{Finds};
 ghost use Rattle.comparing.specs.Call.{longestPair, longestTails, longestLast};
-
-// No turn writes more: the lines of the tails and of the counts.
-pub(crate) const LONGEST_TURN: usize = 95;
 
 // A side and a line's end, which the bar goes over where it is the left one.
 fn put_side(next: Next, input: &[u8], out: &mut [u8], at: usize) -> usize

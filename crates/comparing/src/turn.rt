@@ -13,12 +13,11 @@ use base::is_same;
 use base::narrow;
 use stream::LIMIT;
 ghost use mathlib.Core.Path.{_≡_};
-ghost use mathlib.Core.Bool.{true, false, _&&_};
 ghost use Prim.Native.Nat.{_+_, _≤_};
 ghost use lib.ListN.{length};
-ghost use Rattle.reading.specs.Reading.{limit, stops, first};
+ghost use Rattle.reading.specs.Reading.{limit, first};
 ghost use Rattle.reading.specs.Positions.{greatest};
-ghost use Rattle.comparing.specs.Call.{stays, settles, closes, turnBy, turnOf, goesOn, longestTurn};
+ghost use Rattle.comparing.specs.Call.{settles, closes, turnOf, goesOn, longestTurn};
 ghost use Rattle.comparing.specs.Next.{Finds};
 ghost use Rattle.comparing.specs.Parts.{Turns};
 

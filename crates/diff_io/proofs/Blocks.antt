@@ -13,7 +13,7 @@ use Rattle.base.specs.Parts.{part, copied}
 use Rattle.base.proofs.Parts.{copied-fits}
 use Rattle.base.proofs.Tests.{by-test}
 use Rattle.reading.specs.Reading.{limit}
-use Rattle.diff_io.specs.State.{Sound, Short}
+use Rattle.diff_io.specs.State.{Short}
 
 -- the first bytes of what was copied to the front
 copied-front : (d s : List ℕ) (n : ℕ) → n ≤ length d → n ≤ length s → take n (copied d 0 s n) ≡ take n s
@@ -39,11 +39,3 @@ moved block zeros from to {few} {after} short size same first second =
 pub none-more : (n k : ℕ) {m : ℕ} → n ≡ m → eqb k 0 ≡ eqb (n + k) m
 none-more n k {m} e =
     by-test (eqb k 0) (λ t. t ∙ sym (eq-eqb (n + k) m (omega (arith, eqb-true k 0 t)))) (λ f. f ∙ sym (ne-eqb (n + k) m (λ q. eqb-false k 0 f (omega arith))))
-
--- what the loop keeps: both blocks are as long as they were, and the unread bytes stand in them
-pub record Kept (left₀ right₀ out₀ left right out : List ℕ) (l l-to r r-to : ℕ) : Type 0 where
-  pub left-size : length left ≡ length left₀
-  pub right-size : length right ≡ length right₀
-  pub out-size : length out ≡ length out₀
-  pub left-sound : Sound (length left) l l-to
-  pub right-sound : Sound (length right) r r-to

@@ -1,6 +1,6 @@
 -- What the program promises of its blocks, of how a comparison ends, and of its status.
 -- Assumes nothing.
-use Prim.Native.Nat.{ℕ, _+_, _-_, _≤_, _<_}
+use Prim.Native.Nat.{ℕ, _-_, _≤_, _<_}
 use mathlib.Core.Path.{_≡_}
 use mathlib.Core.Bool.{Bool, true, false}
 use mathlib.Core.List.{List}
@@ -43,21 +43,7 @@ pub record Feeds (wanted : Bool) (before : List ℕ) (from to : ℕ) (ends : Boo
   pub stays : wanted ≡ false → (r ≡ record { from = from; to = to; ends = ends; «has_failed» = false }) × (after ≡ before)
   pub fills : wanted ≡ true → Fills before from to after r
 
--- what a comparison asks for
-abbrev pub wantsLeft : Wants → Bool
-wantsLeft Left = true
-wantsLeft Right = false
-wantsLeft Room = false
-wantsLeft Nothing = false
-wantsLeft (Refused r) = false
-
-abbrev pub wantsRight : Wants → Bool
-wantsRight Left = false
-wantsRight Right = true
-wantsRight Room = false
-wantsRight Nothing = false
-wantsRight (Refused r) = false
-
+-- a comparison asks neither for more bytes nor for room
 abbrev pub isOver : Wants → Bool
 isOver Left = false
 isOver Right = false

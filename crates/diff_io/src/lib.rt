@@ -1,6 +1,7 @@
-// Two uploads compared on standard output, through fixed buffers. What a read yields and what becomes of a write is outside any contract; that what was
-// read is handed to the comparison, behind what was unread of that upload, is promised, and the text of it is that of crate comparing. What is known is
-// written before more is read, and more is read of an upload only where its next answer is not there. A read or a write that fails ends the comparison.
+// Two uploads compared on standard output, through fixed buffers. What a read yields and what becomes of a write is outside any contract. What a part
+// hands to a write is promised, and so is that what came stands behind what was unread; that all parts are a run of crate comparing over what was read is
+// what the loop keeps (proofs/Kept). What is known is written before more is read, and more is read of an upload only where its next answer is not there.
+// A read or a write that fails ends the comparison.
 mod command;
 
 use base::copy_in;
@@ -17,8 +18,8 @@ ghost use Prim.Native.Nat.{_-_, _≤_};
 ghost use lib.ListN.{length, take};
 ghost use Rattle.base.specs.Parts.{part};
 ghost use Rattle.reading.specs.Reading.{limit};
-ghost use Rattle.comparing.specs.Call.{comparedOf, Within};
-ghost use Rattle.diff_io.specs.State.{Sound, Short, Fills, Feeds, wantsLeft, wantsRight, isOver, endedBy};
+ghost use Rattle.comparing.specs.Call.{comparedOf, Within, longestTurn, wantsLeft, wantsRight};
+ghost use Rattle.diff_io.specs.State.{Sound, Short, Fills, Feeds, isOver, endedBy};
 
 // How a comparison ended.
 enum Ended {
@@ -175,7 +176,7 @@ fn compare_blocks(
     right: &mut [u8],
     out: &mut [u8],
 ) -> Ended
-    requires { ⌜ (limit ≤ length (now left)) × (limit ≤ length (now right)) ⌝ }
+    requires { ⌜ ((limit ≤ length (now left)) × (limit ≤ length (now right))) × (longestTurn ≤ length (now out)) ⌝ }
 {
     let mut l = 0;
     let mut l_to = 0;

@@ -13,9 +13,9 @@ use Rattle.base.proofs.Same.{same-self, same-bytes, bytes-same, same-swap}
 use Rattle.base.proofs.Tests.{by-test}
 use Rattle.reading.specs.Answer.{Answer, InvalidSync, InvalidPacketLength, InvalidCrc, Frame, row}
 use Rattle.reading.specs.Reading.{Reading, reading}
-use Rattle.lines.specs.Lines.{leading, heldLine}
+use Rattle.lines.specs.Lines.{leading, heldLine, lineEnd}
 use Rattle.pairs.specs.Pairs.{Side, ended, gave, Pair, pair, pairsOf, sideRow, agrees, agreeing, differing}
-use Rattle.pairs.specs.Comparison.{tailWord, bare, sideText, beside, placeLine, linesFrom, tailLine, lastLine, ifSame, ifOther, agreed, differed, textFrom, comparison}
+use Rattle.pairs.specs.Comparison.{tailWord, bar, bare, sideText, beside, placeLine, linesFrom, tailLine, lastLine, agreed, differed, textFrom, comparison}
 
 -- ---- A line stands at a place exactly if the answers there differ
 
@@ -76,6 +76,17 @@ pub agree-none : (k : ℕ) (p : Pair) → sideRow (p .left) ≡ sideRow (p .righ
 unfolding placeLine
 agree-none k p e = simp (bytes-same (sideRow (p .left)) (sideRow (p .right)) e)
 
+-- .. and the tails' line exactly where their bytes are the same
+pub none-tails : (s t : List ℕ) → tailLine s t ≡ [] → s ≡ t
+unfolding tailLine
+none-tails s t e =
+    by-test (sameBytes s t) (λ same. same-bytes s t same)
+    (λ f. absurd (some tailWord (bare (heldLine (length s))) (bare (heldLine (length t))) (simp f at e)))
+
+pub tails-none : (s t : List ℕ) → s ≡ t → tailLine s t ≡ []
+unfolding tailLine
+tails-none s t e = simp (bytes-same s t e)
+
 -- an answer never agrees with a side that has ended; two frames agree exactly where all their bytes are the same
 pub ended-differs : (a : Answer) → sideRow (gave a) ≡ sideRow ended → ⊥
 unfolding sideRow row
@@ -87,6 +98,9 @@ ended-differs (Frame c) e = nil≢cons (sym e)
 pub frames-agree : (c d : List ℕ) → sideRow (gave (Frame c)) ≡ sideRow (gave (Frame d)) → c ≡ d
 unfolding sideRow row
 frames-agree c d e = cc
+
+pub same-frames : (c d : List ℕ) → c ≡ d → sideRow (gave (Frame c)) ≡ sideRow (gave (Frame d))
+same-frames c d e = ap (λ (x : List ℕ). sideRow (gave (Frame x))) e
 
 -- ---- Agree and differ add up to the pairs
 
@@ -137,12 +151,14 @@ agrees-swapped : (p : Pair) → agrees (swapped p) ≡ agrees p
 agrees-swapped p = same-swap (sideRow (p .right)) (sideRow (p .left))
 
 -- the sides of a line
-pub swapped-line : (k : ℕ) (p : Pair) → placeLine k (swapped p) ≡ (if agrees p then [] else beside (leading k) (sideText (p .right)) (sideText (p .left)))
-unfolding placeLine
+pub swapped-line : (k : ℕ) (p : Pair)
+    → placeLine k (swapped p) ≡ (if agrees p then [] else leading k ++ (sideText (p .right) ++ (bar ++ (sideText (p .left) ++ lineEnd))))
+unfolding placeLine beside
 swapped-line k p = simp (agrees-swapped p)
 
-pub swapped-tail : (s t : List ℕ) → tailLine t s ≡ (if sameBytes s t then [] else beside tailWord (bare (heldLine (length t))) (bare (heldLine (length s))))
-unfolding tailLine
+pub swapped-tail : (s t : List ℕ)
+    → tailLine t s ≡ (if sameBytes s t then [] else tailWord ++ (bare (heldLine (length t)) ++ (bar ++ (bare (heldLine (length s)) ++ lineEnd))))
+unfolding tailLine beside
 swapped-tail s t = simp (same-swap t s)
 
 -- the counts

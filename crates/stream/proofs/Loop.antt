@@ -31,6 +31,11 @@ use Rattle.stream.proofs.Histories.{goes-on}
 
 -- ---- A call asks for more where the reading stops, and nowhere else
 
+pub stops-by : (f : First) → stops f ≡ true → f ≡ stop
+unfolding stops
+stops-by stop e = refl
+stops-by (says a) e = absurd (true≢false (sym e))
+
 unfoldable saysMore : Said → Bool
 saysMore more = true
 saysMore (frame ofHeld bytes) = false
@@ -126,11 +131,6 @@ module _ {m : ℕ} {stream input places : List ℕ} {start end taken : ℕ} {giv
 
     -- it asked for more: all answers are given, everything is taken, and the tail is held
     module _ (more-asked : asksForMore (r .reply) ≡ true) where
-      stops-by : (f : First) → stops f ≡ true → f ≡ stop
-      unfolding stops
-      stops-by stop e = refl
-      stops-by (says a) e = absurd (true≢false (sym e))
-
       pub asks : c .answer ≡ stop
       asks = stops-by (c .answer) (sym (asks-where-stops moved) ∙ more-asked)
 

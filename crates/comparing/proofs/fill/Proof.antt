@@ -1,7 +1,6 @@
 -- `comparing::fill` meets its contract. The invariant: the text so far, and the turns from here on, are what is wanted. The measure is how many bytes are
 -- left of both. Assumes nothing.
-use mathlib.Core.Path.{_≡_, sym, ap, ap₂, _∙_, subst}
-use mathlib.Core.Bool.{Bool, true, false, not}
+use mathlib.Core.Path.{ap₂, subst}
 use mathlib.Core.List.{List}
 use Prim.Native.Nat.{ℕ, _+_, _-_, _≤_}
 use native.Mathlib.Omega.{arith}
@@ -10,8 +9,8 @@ use borrow.Author.Tests.{leb-true, not-true, not-false}
 use lib.ListN.{length, drop}
 use Rattle.base.proofs.Tests.{not-as}
 use Rattle.stream.proofs.Loop.{unread-is}
-use Rattle.reading.specs.Positions.{greatest}
-use Rattle.comparing.specs.Call.{compareOf, turnOf, goesOn, longestTurn, isCounted}
+use Rattle.reading.specs.Positions.{greatest, isWithin}
+use Rattle.comparing.specs.Call.{compareOf, turnOf, longestTurn}
 use Rattle.comparing.specs.Parts.{Turns}
 use Rattle.comparing.proofs.Filled.{Filling, begin, full, takes-left, takes-right, same-size, within-turn, less, again, last}
 use Rattle.comparing.proofs.fill.Statement.{statement}
@@ -25,7 +24,7 @@ abbrev μ-loop : tie.MeasureT-loop
 μ-loop left left-ends right right-ends agree differ out₀ places₀ l₀ r₀ n₀ d₀ at₀ out places l r n d at = (length left - l) + (length right - r)
 
 counted : (c : tie.Start Inv-loop μ-loop) → (let a = c .args in a .agree + a .differ + 1 + length (a .left .now) + length (a .right .now) ≤ greatest)
-unfolding isCounted
+unfolding isWithin
 counted c = leb-true _ _ (c .pre)
 
 -- a turn over what is left of both

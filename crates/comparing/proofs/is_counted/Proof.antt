@@ -1,10 +1,8 @@
 -- `comparing::is_counted` meets its contract. Assumes nothing.
-use mathlib.Core.Path.{_≡_, sym, ap, _∙_}
-use Prim.Native.Nat.{ℕ, _+_}
+use mathlib.Core.Path.{sym}
+use Prim.Native.Nat.{_+_}
 use native.Mathlib.Omega.{arith}
-use lib.Dec.{leb}
 use Rattle.reading.specs.Positions.{greatest, isWithin}
-use Rattle.comparing.specs.Call.{isCounted}
 use borrow.Author.Needs.{needs}
 use borrow.Author.Tests.{lt-leb}
 use Rattle.comparing.proofs.is_counted.Statement.{statement}
@@ -14,7 +12,7 @@ sub-if1 : tie.Need-sub-if1
 sub-if1 c = search needs
 
 returns : tie.Need-returns
-unfolding isCounted
+unfolding isWithin
 returns c =
     let a = c .before .args in
     sym (lt-leb (a .agree + a .differ + 1 + a .left + a .right) greatest (omega (arith, c .if1 .taken)))
@@ -29,7 +27,6 @@ is-within-requires : tie.Need-is-within-requires
 is-within-requires c κs = search needs
 
 returns-2 : tie.Need-returns-2
-unfolding isCounted isWithin
 returns-2 c = c .is-within .ensures
 
 pub is-counted-spec : {M : Type 1} → statement M

@@ -1,22 +1,23 @@
 -- `diff_io::compare_blocks` meets its contract. The invariant: the unread bytes stand in their blocks. The measure is how many turns are left.
 -- Assumes nothing.
-use mathlib.Core.Path.{_≡_, refl, sym, _∙_}
-use Prim.Native.Nat.{_+_, _-_, _≤_}
+use mathlib.Core.Path.{_≡_, sym, _∙_, subst}
+use mathlib.Core.Bool.{Bool}
+use Prim.Native.Nat.{_+_, _-_}
 use native.Mathlib.Omega.{arith}
 use borrow.Author.Needs.{needs}
 use lib.ListN.{length}
 use Rattle.base.specs.Parts.{part}
 use Rattle.base.proofs.Parts.{length-part}
 use Rattle.comparing.proofs.Progress.{Asks, call-asks}
-use Rattle.diff_io.specs.State.{Sound}
-use Rattle.diff_io.proofs.Blocks.{Kept}
+use Rattle.diff_io.specs.State.{Sound, Feeds}
+use Rattle.diff_io.proofs.Kept.{Kept, begun, again}
 use Rattle.diff_io.proofs.Asked.{short-left, short-right}
 use Rattle.diff_io.proofs.compare_blocks.Statement.{statement}
 use Rattle.diff_io.proofs.compare_blocks.Tie as tie
 
 abbrev Inv-loop : tie.InvT-loop
 Inv-loop left-fd right-fd left₀ right₀ out₀ l₀ l-to₀ l-ends₀ r₀ r-to₀ r-ends₀ agree₀ differ₀ turns₀ left right out l l-to l-ends r r-to r-ends agree differ turns =
-    Kept left₀ right₀ out₀ left right out l l-to r r-to
+    Kept left₀ right₀ out₀ left right out l l-to l-ends r r-to r-ends agree differ
 
 abbrev μ-loop : tie.MeasureT-loop
 μ-loop left-fd right-fd left₀ right₀ out₀ l₀ l-to₀ l-ends₀ r₀ r-to₀ r-ends₀ agree₀ differ₀ turns₀ left right out l l-to l-ends r r-to r-ends agree differ turns =
@@ -38,7 +39,7 @@ right-long c =
 -- what a call asks for
 asks : (c : tie.After-compare-part Inv-loop μ-loop)
     → (let s = c .before .before .before .before .before .before .before .loop in
-    Asks (part (s .left) (s .l) (s .l-to - s .l)) (part (s .right) (s .r) (s .r-to - s .r)) (s .l-ends) (s .r-ends) (length (s .out))
+    Asks (part (s .left) (s .l) (s .l-to - s .l)) (part (s .right) (s .r) (s .r-to - s .r)) (s .l-ends) (s .r-ends) (s .agree) (s .differ) (length (s .out))
     (c .compare-part .result .compared))
 asks c =
     let s = c .before .before .before .before .before .before .before .loop in
@@ -61,13 +62,9 @@ going-right c =
     record { ordered = omega (arith, k .ordered, right-long at, c .compare-part .ensures .1 .right-in); inside = k .inside }
 
 loop-holds : tie.Need-loop-holds Inv-loop μ-loop
-loop-holds c = record {
-  left-size = refl;
-  right-size = refl;
-  out-size = refl;
-  left-sound = record { ordered = omega arith; inside = omega arith };
-  right-sound = record { ordered = omega arith; inside = omega arith };
-}
+loop-holds c =
+    let a = c .before .before .before .args in
+    begun (a .left .now) (a .right .now) (a .out .now)
 
 sub-turns : tie.Need-sub-turns Inv-loop μ-loop
 sub-turns c = omega (arith, c .loop-test .taken)
@@ -158,7 +155,7 @@ feed-requires c κs =
     let kept = at .loop .inv in (
       going-left part,
       λ e.
-          short-left (asks part) (kept .left-sound) (omega (arith, start .pre .0, kept .left-size)) (left-long at) (part .compare-part .ensures .1 .left-in)
+          short-left (asks part) (kept .left-sound) (omega (arith, start .pre .0 .0, kept .left-size)) (left-long at) (part .compare-part .ensures .1 .left-in)
           (sym (c .before .before .is-left .ensures) ∙ e),
     )
 
@@ -200,7 +197,7 @@ feed-requires-2 c κs =
     let kept = at .loop .inv in (
       going-right part,
       λ e.
-          short-right (asks part) (kept .right-sound) (omega (arith, start .pre .1, kept .right-size)) (right-long at) (part .compare-part .ensures .1 .right-in)
+          short-right (asks part) (kept .right-sound) (omega (arith, start .pre .0 .1, kept .right-size)) (right-long at) (part .compare-part .ensures .1 .right-in)
           (sym (c .before .before .is-right .ensures) ∙ e),
     )
 
@@ -230,19 +227,21 @@ loop-less c = omega (arith, c .before .before .before .before .before .before .b
 
 loop-again : tie.Need-loop-again Inv-loop μ-loop
 loop-again c =
-    let right = c .before .before .before in
-    let left = right .before .before .before .before .before .before .before in
-    let part = left .before .before .before .before .before .before .before .before .before .before .before in
-    let kept = part .before .before .before .before .before .before .before .loop .inv in
-    let l = left .feed .ensures .sound in
-    let r = right .feed2 .ensures .sound in
-    record {
-      left-size = left .feed .kept .1 .1 .0 ∙ kept .left-size;
-      right-size = right .feed2 .kept .1 .1 .0 ∙ kept .right-size;
-      out-size = part .compare-part .kept .1 .1 .1 .1 .1 .1 .0 ∙ kept .out-size;
-      left-sound = record { ordered = l .ordered; inside = omega (arith, l .inside, left .feed .kept .1 .1 .0) };
-      right-sound = record { ordered = r .ordered; inside = omega (arith, r .inside, right .feed2 .kept .1 .1 .0) };
-    }
+    let second = c .before .before .before in
+    let wants-right = second .before .before .before in
+    let first = second .before .before .before .before .before .before .before in
+    let wants-left = first .before .before .before in
+    let over = wants-left .before .before in
+    let whole = first .before .before .before .before .before .before .before .before .before .before .before in
+    let s = whole .before .before .before .before .before .before .before .loop in
+    again (s .inv) (whole .compare-part .ensures .0) (asks whole) (sym (over .is-over .ensures) ∙ wants-left .before .if2 .left)
+    (whole .compare-part .kept .1 .1 .1 .1 .1 .1 .0) (going-left whole .ordered) (going-right whole .ordered)
+    (subst (λ (b : Bool). Feeds b (s .left) (s .l + whole .compare-part .result .compared .left) (s .l-to) (s .l-ends) (first .feed .last .1 .1 .0) (first .feed .result))
+    (wants-left .is-left .ensures) (first .feed .ensures))
+    (first .feed .kept .1 .1 .0)
+    (subst (λ (b : Bool). Feeds b (s .right) (s .r + whole .compare-part .result .compared .right) (s .r-to) (s .r-ends) (second .feed2 .last .1 .1 .0) (second .feed2 .result))
+    (wants-right .is-right .ensures) (second .feed2 .ensures))
+    (second .feed2 .kept .1 .1 .0)
 
 same-length-13 : tie.Need-same-length-13 Inv-loop μ-loop
 same-length-13 c = c .before .loop .inv .left-size

@@ -1,11 +1,10 @@
 -- `comparing::turn::turn_by` meets its contract. Assumes nothing.
 use mathlib.Core.Path.{_≡_, sym, ap, ap₂, _∙_}
-use mathlib.Core.Bool.{Bool, true, false, _&&_, not}
-use native.Mathlib.Omega.{arith}
+use mathlib.Core.Bool.{Bool, _&&_, not, and-eq-true-iff}
 use Rattle.reading.specs.Reading.{limit, stops, first}
-use Rattle.comparing.specs.Call.{hungry, turnOf}
+use Rattle.comparing.specs.Call.{hungry}
 use Rattle.comparing.specs.declared.Wants.the-variants.{Left, Right}
-use Rattle.comparing.proofs.Found.{and-left, and-right, short-side}
+use Rattle.comparing.proofs.Found.{short-side}
 use Rattle.comparing.proofs.Turned.{turn-left, turn-right, turn-closes, turn-settles, turns-as, stayed}
 use borrow.Author.Needs.{needs}
 use Rattle.comparing.proofs.turn.turn_by.Statement.{statement}
@@ -68,10 +67,8 @@ close-requires c κs =
     let done = c .before in
     let start = done .before .before .before .before .before .before .before .before .before in
     let a = start .args in
-    let stop = sym (both (done .before)) ∙ done .if3 .taken in (
-      (short-side (a .left .now) (and-left _ _ stop), short-side (a .right .now) (and-right (stops (first limit (a .left .now))) _ stop)),
-      start .pre .1,
-    )
+    let stop = and-eq-true-iff (stops (first limit (a .left .now))) (stops (first limit (a .right .now))) .0 (sym (both (done .before)) ∙ done .if3 .taken) in
+    ((short-side (a .left .now) (stop .0), short-side (a .right .now) (stop .1)), start .pre .1)
 
 same-length : tie.Need-same-length
 same-length c = search needs
