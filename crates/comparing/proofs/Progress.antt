@@ -6,7 +6,7 @@ use mathlib.Core.Bool.{Bool, true, false, true≢false, not, and-eq-true-iff}
 use mathlib.Core.List.{List}
 use Prim.Native.Nat.{ℕ, zero, suc, _+_, _-_, _≤_, _<_}
 use native.Mathlib.Omega.{arith}
-use borrow.Author.Tests.{ltb-true, not-true}
+use borrow.Author.Tests.{ltb-true, leb-false, not-true}
 use lib.Dec.{ltb}
 use lib.ListN.{length, drop, length-append, length-drop}
 use lib.Seq.{drop-drop}
@@ -14,6 +14,7 @@ use Rattle.base.specs.Parts.{pasted}
 use Rattle.base.proofs.Tests.{by-test}
 use Rattle.refusals.specs.declared.Refusal.the-variants.{PositionRange}
 use Rattle.reading.specs.Reading.{limit, stops, first}
+use Rattle.reading.specs.Positions.{greatest, isWithin}
 use Rattle.comparing.specs.Call.{Comparing, stays, hungry, turnOf, goesOn, isWhole, wantsLeft, wantsRight, after, longestTurn, turnsWithin, compareOf, shown, isCounted, comparedOf}
 use Rattle.comparing.specs.declared.Compared.{Compared}
 use Rattle.comparing.specs.declared.Wants.{Wants}
@@ -104,12 +105,12 @@ pub record Asks (left right : List ℕ) (lends rends : Bool) (n d room : ℕ) (c
   pub more-left : c .wants ≡ Left → (lends ≡ false) × (length (drop (c .left) left) < limit)
   pub more-right : c .wants ≡ Right → (rends ≡ false) × (length (drop (c .right) right) < limit)
   pub more-room : c .wants ≡ Room → room < c .written + longestTurn
-  pub refuses : isRefused (c .wants) ≡ true → isCounted n d (length left) (length right) ≡ false
+  pub refuses : isRefused (c .wants) ≡ true → greatest < n + d + 1 + length left + length right
 
 module _ (left right : List ℕ) (lends rends : Bool) (n d : ℕ) (out : List ℕ) {outAfter : List ℕ} {c : Compared}
     (is : (c, outAfter) ≡ comparedOf left lends right rends n d out) where
   pub call-asks : Asks left right lends rends n d (length out) c
-  unfolding comparedOf
+  unfolding comparedOf isWithin
   call-asks =
       by-test (isCounted n d (length left) (length right))
       (λ good.
@@ -130,18 +131,18 @@ module _ (left right : List ℕ) (lends rends : Bool) (n d : ℕ) (out : List �
         more-left = λ q. absurd (true≢false (sym (ap wantsLeft q)));
         more-right = λ q. absurd (true≢false (sym (ap wantsRight q)));
         more-room = λ q. absurd (true≢false (sym (ap goesOn q)));
-        refuses = λ q. bad;
+        refuses = λ q. leb-false (n + d + 1 + length left + length right) greatest bad;
       }))
 
-  whole-by : (w : Wants) → c .wants ≡ w → lends ≡ true → rends ≡ true → isCounted n d (length left) (length right) ≡ true
+  whole-by : (w : Wants) → c .wants ≡ w → lends ≡ true → rends ≡ true → n + d + 1 + length left + length right ≤ greatest
       → c .written + longestTurn ≤ length out → isWhole w ≡ true
   whole-by Left e l r counted room = absurd (true≢false (sym l ∙ call-asks .more-left e .0))
   whole-by Right e l r counted room = absurd (true≢false (sym r ∙ call-asks .more-right e .0))
   whole-by Room e l r counted room = absurd (omega (arith, call-asks .more-room e))
   whole-by Nothing e l r counted room = refl
-  whole-by (Refused x) e l r counted room = absurd (true≢false (sym counted ∙ call-asks .refuses (ap isRefused e)))
+  whole-by (Refused x) e l r counted room = absurd (omega (arith, counted, call-asks .refuses (ap isRefused e)))
 
   -- both uploads have ended, what is left can be counted, and there is room behind what was written: then that is all
-  pub comes-to-its-end : lends ≡ true → rends ≡ true → isCounted n d (length left) (length right) ≡ true → c .written + longestTurn ≤ length out
+  pub comes-to-its-end : lends ≡ true → rends ≡ true → n + d + 1 + length left + length right ≤ greatest → c .written + longestTurn ≤ length out
       → isWhole (c .wants) ≡ true
   comes-to-its-end = whole-by (c .wants) refl

@@ -88,10 +88,21 @@ fn unopened(line: &[u8]) -> u8
     2
 }
 
+// Standard input, or a number below 0 where it is closed: a file that is opened then may get its number.
+fn open_input() -> i32 {
+    let mut none = [0u8; 1];
+    if libc::read(STDIN_FILENO, &mut none[..0]) < 0 {
+        if os::errno() == libc::EBADF {
+            return -1;
+        }
+    }
+    STDIN_FILENO
+}
+
 // A descriptor, or a number below 0 where there is none.
 fn open_upload(asked: Asked, path: &[u8]) -> i32 {
     match asked {
-        Asked::Input => STDIN_FILENO,
+        Asked::Input => open_input(),
         Asked::File => os::open_read(path),
         Asked::Help => -1,
         Asked::Version => -1,
@@ -100,19 +111,7 @@ fn open_upload(asked: Asked, path: &[u8]) -> i32 {
     }
 }
 
-fn is_input(asked: Asked) -> bool {
-    match asked {
-        Asked::Input => true,
-        Asked::File => false,
-        Asked::Help => false,
-        Asked::Version => false,
-        Asked::Failed => false,
-        Asked::Refused => false,
-    }
-}
-
-// Both are opened before anything is written. Standard input is one upload at most: where both have its number, it is named twice, or it is closed and a
-// file was given that number.
+// Both are opened before anything is written. Standard input is one upload at most.
 pub(crate) fn compare_both(left: Asked, left_path: &[u8], right: Asked, right_path: &[u8]) -> u8
     ensures { λ r. ⌜ r ≤ 2 ⌝ }
 {
@@ -125,13 +124,12 @@ pub(crate) fn compare_both(left: Asked, left_path: &[u8], right: Asked, right_pa
         return unopened(b"unopened 2\n");
     }
     if left_fd == right_fd {
-        if is_input(right) {
-            return unopened(b"unopened 2\n");
-        }
-        return unopened(b"unopened 1\n");
+        return unopened(b"unopened 2\n");
     }
     let ended = compare_inputs(left_fd, right_fd);
     tell_end(ended, left, left_path, right, right_path);
+    libc::close(left_fd);
+    libc::close(right_fd);
     status_of(ended)
 }
 

@@ -1,4 +1,4 @@
-// What the arguments of a program that takes one file ask for.
+// What the arguments of a program ask for: one argument, and all of a program that takes one file.
 use crate::tell;
 use crate::words::is_option;
 use base::is_same;
@@ -14,9 +14,9 @@ pub enum Asked {
     File,
     Help,
     Version,
-    // What can't be done, as standard error says: status 1.
+    // An argument that can't be read.
     Failed,
-    // Bad usage, as standard error says: status 2.
+    // Bad usage, as standard error says.
     Refused,
 }
 
@@ -44,7 +44,7 @@ fn refuse_option(name: &[u8], usage: &[u8], word: &[u8]) -> Asked
     refuse(usage)
 }
 
-// What one argument asks for.
+// What one argument asks for. Standard error names an unknown option, and has the usage line behind that.
 pub fn asked_by(name: &[u8], usage: &[u8], word: &[u8]) -> Asked
     ensures { λ r. ⌜ r ≡ askedBy (now (word .entry)) ⌝ }
 {

@@ -1,6 +1,7 @@
 -- `lines::line::put_text` meets its contract: the room is tested first. Assumes nothing.
 use mathlib.Core.Path.{sym, _∙_}
 use Prim.Native.Nat.{_+_, _≤_}
+use native.Mathlib.Omega.{arith}
 use borrow.Author.Needs.{needs}
 use borrow.Author.Tests.{leb-true}
 use lib.ListN.{length}
@@ -17,7 +18,7 @@ fits-requires : tie.Need-fits-requires
 fits-requires c κs = search needs
 
 put-word-requires : tie.Need-put-word-requires
-put-word-requires c κs = room (c .before)
+put-word-requires c κs = omega (arith, room (c .before))
 
 same-length : tie.Need-same-length
 same-length c = search needs
