@@ -1,7 +1,8 @@
 /*
  * Faults for the tests of the programs. Loaded before the C library (LD_PRELOAD), it answers a program's reads as the variable READS says, and its
  * writes to standard output as WRITES says, word by word: a number moves at most that many bytes, E and a number fails with that errno. Behind the
- * last word all is as usual. Where READS_OF is set, READS speaks of that descriptor alone.
+ * last word all is as usual, and so is a read of no bytes, which asks whether a descriptor is open. Where READS_OF is set, READS speaks of that
+ * descriptor alone.
  */
 #define _GNU_SOURCE
 #include <errno.h>
@@ -29,7 +30,7 @@ ssize_t read(int fd, void *bytes, size_t n)
 {
     static const char *at, *words;
     const char *of = getenv("READS_OF");
-    if (of && fd != atoi(of))
+    if (n == 0 || (of && fd != atoi(of)))
         return syscall(SYS_read, fd, bytes, n);
     if (!words)
         at = words = getenv("READS") ? getenv("READS") : "";
