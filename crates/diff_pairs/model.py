@@ -1,5 +1,5 @@
 #!/usr/bin/env python3
-"""model.py: writes data, pairs of files NAME.left and NAME.right, and stdout, what diff says of each, into its own folder. It is a plain model of the reading
+"""model.py: writes data, pairs of files NAME.left and NAME.right, and stdout, what diff says of each, and of single calls at the edges, into its own folder. It is a plain model of the reading
 (docs/RULES.md, 5), the lines (13) and the comparison, written from the rules: what stands in stdout comes from here and not from the program."""
 import itertools
 import pathlib
@@ -220,6 +220,46 @@ until(lambda: left, 200000)
 apart(largest[:40], largest[:40])
 pairs["blocks"] = left, right
 
+# ---- Single calls at the edges (RULES 19.10)
+
+MOST = 2**64 - 1
+
+
+def call(left, left_ends, right, right_ends, agree, differ, room):
+    """What a call shows, and its text."""
+    done, text = [0, 0], ""
+    while True:
+        (a, n), (b, k) = first(left[done[0]:]), first(right[done[1]:])
+        if agree + differ + 1 + len(left) + len(right) > MOST:
+            wants = "refused 12"
+        elif room - len(text) < 95:
+            wants = "room"
+        elif a is None and not left_ends:
+            wants = "left"
+        elif b is None and not right_ends:
+            wants = "right"
+        elif a is None and b is None:
+            wants, same = "nothing", left[done[0]:] == right[done[1]:]
+            text += "" if same else f"tail held {len(left) - done[0]} | held {len(right) - done[1]}\n"
+            agree, differ = agree + same, differ + (not same)
+            text += f"agree {agree} differ {differ}\n"
+        else:
+            text += "" if a == b else f"{agree + differ + 1} {line(a)} | {line(b)}\n"
+            agree, differ = agree + (a == b), differ + (a != b)
+            done = [done[0] + n, done[1] + k]
+            continue
+        return f"{wants} {done[0]} {done[1]} {agree} {differ} {len(text)} bytes\n{text}"
+
+
+edges = {
+    "rooms": [(b"", True, b"", True, 0, 0, 95), (b"", True, b"", True, 0, 0, 94), (ping, True, bad, True, 0, 0, 128)],
+    "sides": [(b"", False, b"", False, 0, 0, 128), (b"", True, b"", False, 0, 0, 128), (waits, False, b"\x55", True, 0, 0, 128),
+              (b"\x55", True, waits, False, 0, 0, 128), (b"\x55\xC8", False, b"\x55\xC8", False, 0, 0, 128)],
+    "counts": [(b"", True, b"", True, MOST - 1, 0, 95), (b"", True, b"", True, 0, MOST - 1, 95), (b"", True, b"", True, MOST, 0, 95),
+               (b"", True, b"", True, MOST, MOST, 95), (b"\x55", True, b"", True, MOST - 2, 0, 128), (b"\x55", True, b"", True, MOST - 1, 0, 128),
+               (b"", True, b"\x55", True, 1, MOST - 2, 128)],
+}
+
 here = pathlib.Path(__file__).parent
 (here / "data").mkdir(exist_ok=True)
 text = ""
@@ -227,4 +267,6 @@ for name, (left, right) in pairs.items():
     (here / "data" / f"{name}.left").write_bytes(left)
     (here / "data" / f"{name}.right").write_bytes(right)
     text += f"{name}:\n" + compared(left, right)
+for name, calls in edges.items():
+    text += f"{name}:\n" + "".join(call(*c) for c in calls)
 (here / "stdout").write_text(text)

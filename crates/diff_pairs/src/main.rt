@@ -1,4 +1,7 @@
-// The program diff on several stored pairs of files, one after another: NAME.left beside NAME.right, behind a line with the name.
+// The program diff on several stored pairs of files, one after another: NAME.left beside NAME.right, behind a line with the name. Then single calls of
+// the comparison, at its edges.
+mod edges;
+
 use diff_io::diff_files;
 use program::print;
 
@@ -87,4 +90,5 @@ fn main() {
     kinds();
     swapped();
     blocks();
+    edges::run();
 }
