@@ -227,12 +227,12 @@ MOST = 2**64 - 1
 
 def call(left, left_ends, right, right_ends, agree, differ, room):
     """What a call shows, and its text."""
+    if agree + differ + 1 + len(left) + len(right) > MOST:
+        return f"refused 12 0 0 {agree} {differ} 0 bytes\n"
     done, text = [0, 0], ""
     while True:
         (a, n), (b, k) = first(left[done[0]:]), first(right[done[1]:])
-        if agree + differ + 1 + len(left) + len(right) > MOST:
-            wants = "refused 12"
-        elif room - len(text) < 95:
+        if room - len(text) < 95:
             wants = "room"
         elif a is None and not left_ends:
             wants = "left"
