@@ -1,3 +1,5 @@
+-- `Over`: a line's end, over which the next part goes. `Found`, `Alike`: what stands first on a side, and whether two such agree. `Turned`, `Filled`: one
+-- turn, and the loop. `Carried`, `Runs`: what is written, over any pieces. `Progress`: it is never stuck. `Unique`: one answer.
 pub mod Over
 pub mod Found
 pub mod Alike

@@ -1,8 +1,8 @@
 -- What the loop over two blocks keeps: the blocks are as long as they were, the unread bytes stand in them, and all that was compared and written so far
 -- is a run of crate comparing, whose uploads are what was read.
 -- Assumes nothing.
-use mathlib.Core.Path.{_≡_, refl, sym, ap, _∙_, subst}
-use mathlib.Core.Bool.{Bool, true, false, true≢false}
+use mathlib.Core.Path.{_≡_, refl, _∙_}
+use mathlib.Core.Bool.{Bool, false}
 use mathlib.Core.List.{List, []}
 use Prim.Native.Nat.{ℕ, _+_, _-_, _≤_}
 use native.Mathlib.Omega.{arith}
@@ -17,7 +17,7 @@ use Rattle.comparing.proofs.Progress.{Asks}
 use Rattle.diff_io.specs.State.{Sound, Feeds, isOver}
 use Rattle.diff_io.specs.declared.Fed.{Fed}
 use Rattle.diff_io.proofs.Asked.{left-by, right-by}
-use Rattle.diff_io.proofs.Laws.{Holds, Goes, call-on, left-on, right-on, fed-on}
+use Rattle.diff_io.proofs.Laws.{Holds, call-on, left-on, right-on, fed-on}
 
 pub record Kept (left₀ right₀ out₀ left right out : List ℕ) (l l-to : ℕ) (l-ends : Bool) (r r-to : ℕ) (r-ends : Bool) (agree differ : ℕ) : Type 0 where
   pub left-size : length left ≡ length left₀

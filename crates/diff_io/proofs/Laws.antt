@@ -2,12 +2,12 @@
 -- `whole` there are about the program's text too (RULES 19).
 -- Assumes nothing.
 use mathlib.Core.Path.{_≡_, refl, sym, ap, ap₂, _∙_, subst}
-use mathlib.Core.Bool.{Bool, true, false, true≢false}
+use mathlib.Core.Bool.{Bool, true, false}
 use mathlib.Core.List.{List, [], _++_, append-nil}
 use Prim.Native.Nat.{ℕ, _+_, _-_, _≤_}
 use native.Mathlib.Omega.{arith}
 use borrow.Author.Tests.{eqb-true}
-use lib.ListN.{length, take, drop, take-append-drop}
+use lib.ListN.{take, drop, take-append-drop}
 use lib.Seq.{drop-drop, take-take}
 use Rattle.base.specs.Parts.{part}
 use Rattle.base.proofs.Parts.{drop-take}
@@ -15,7 +15,7 @@ use Rattle.base.proofs.Tests.{by-test}
 use Rattle.comparing.specs.Call.{isWhole, comparedOf}
 use Rattle.comparing.specs.Run.{Upload, offered, over, went, Lent, Run, offer-left, offer-right, end-left, end-right, call}
 use Rattle.comparing.specs.declared.Compared.{Compared}
-use Rattle.diff_io.specs.State.{Sound, Fills, Feeds}
+use Rattle.diff_io.specs.State.{Fills, Feeds}
 use Rattle.diff_io.specs.declared.Fed.{Fed}
 
 -- the unread bytes of an upload are those that stand in its block

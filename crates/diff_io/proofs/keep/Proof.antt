@@ -1,5 +1,5 @@
 -- `diff_io::keep` meets its contract. Assumes nothing.
-use mathlib.Core.Path.{_≡_, refl, sym, _∙_}
+use mathlib.Core.Path.{refl}
 use Rattle.diff_io.proofs.Blocks.{moved}
 use borrow.Author.Needs.{needs}
 use Rattle.diff_io.proofs.keep.Statement.{statement}

@@ -1,15 +1,13 @@
 -- `comparing::text::put_last` meets its contract: the line's end goes over the space behind the last number. Assumes nothing.
-use Prim.Native.Nat.{_+_, _-_, _≤_}
-use mathlib.Core.List.{[], _∷_, _++_}
+use Prim.Native.Nat.{_≤_}
+use mathlib.Core.List.{_++_}
 use native.Mathlib.Omega.{arith}
-use lib.ListN.{length, length-append}
 use Rattle.lines.specs.Digits.{decimal}
 use Rattle.lines.specs.Lines.{leading, lineEnd, longestPosition}
 use Rattle.lines.specs.Put.{Puts}
 use Rattle.lines.proofs.Puts.{puts-within, puts-then}
 use Rattle.lines.proofs.Digits.{length-leading}
 use Rattle.pairs.specs.Comparison.{agreeWord, differWord, lastLine}
-use Rattle.comparing.specs.Call.{longestLast}
 use Rattle.comparing.proofs.Over.{puts-over}
 use borrow.Author.Needs.{needs}
 use Rattle.comparing.proofs.text.put_last.Statement.{statement}

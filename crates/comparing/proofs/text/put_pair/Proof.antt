@@ -1,7 +1,7 @@
 -- `comparing::text::put_pair` meets its contract: the parts of the line, one behind another, and the bar over the left one's end. Assumes nothing.
 use Prim.Native.Nat.{_+_, _-_, _≤_}
 use native.Mathlib.Omega.{arith}
-use lib.ListN.{length, length-append}
+use lib.ListN.{length-append}
 use Rattle.reading.specs.Reading.{limit, first}
 use Rattle.lines.specs.Lines.{leading, lineEnd, longestPosition}
 use Rattle.lines.specs.Put.{Puts}

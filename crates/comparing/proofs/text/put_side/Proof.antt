@@ -1,12 +1,9 @@
 -- `comparing::text::put_side` meets its contract. Assumes nothing.
-use mathlib.Core.Path.{_≡_, sym, _∙_}
-use mathlib.Core.Bool.{Bool}
-use Prim.Native.Nat.{_+_, _≤_}
+use mathlib.Core.Path.{sym, _∙_}
 use native.Mathlib.Omega.{arith}
-use lib.ListN.{length, length-append}
-use Rattle.reading.specs.Reading.{limit, stops, first}
+use lib.ListN.{length-append}
+use Rattle.reading.specs.Reading.{limit, first}
 use Rattle.lines.specs.Lines.{longest, lineEnd}
-use Rattle.lines.specs.Put.{Puts}
 use Rattle.lines.proofs.Puts.{puts-within, puts-as}
 use Rattle.pairs.specs.Pairs.{sideOf}
 use Rattle.pairs.specs.Comparison.{sideText}

@@ -1,7 +1,5 @@
 -- `comparing::turn::close` meets its contract. Assumes nothing.
 use mathlib.Core.Path.{sym, _∙_}
-use native.Mathlib.Omega.{arith}
-use Rattle.comparing.specs.Call.{longestTails, longestLast, longestTurn}
 use Rattle.comparing.proofs.Turned.{closed-same, closed-other}
 use borrow.Author.Needs.{needs}
 use Rattle.comparing.proofs.turn.close.Statement.{statement}
