@@ -14,10 +14,12 @@ mod queries;
 mod record;
 mod records;
 mod report;
+mod uploads;
 
 use listing::Listing;
 use pairs::Programs;
 use report::Report;
+use uploads::Uploads;
 
 struct Options {
     seed: u64,
@@ -115,6 +117,15 @@ fn programs(o: &Options) -> Programs {
     }
 }
 
+/// The comparison of two uploads, where it is at hand.
+fn uploads(o: &Options) -> Uploads {
+    Uploads {
+        rust_list: listing(o).rust,
+        diff: o.diff.clone().map(|program| [o.emulator.clone(), vec![program]].concat()),
+        folder: o.root.join("target/oracle/uploads"),
+    }
+}
+
 /// The command that makes one run of the timing.
 fn this_program_once(o: &Options) -> Vec<String> {
     let this = std::env::current_exe().expect("this program has a name").to_string_lossy().into_owned();
@@ -149,5 +160,6 @@ fn main() {
     queries::compare(&mut report, o.seed);
     logs::compare(&mut report, o.seed);
     listing(&o).compare(&mut report, o.seed);
+    uploads(&o).compare(&mut report, o.seed);
     std::process::exit(report.finish());
 }
