@@ -58,7 +58,7 @@
 
 /* The version of this header and of the archive, and nowhere else decided: CHANGELOG.md says what changed. */
 #define CRSF_VERSION_MAJOR 0
-#define CRSF_VERSION_MINOR 7
+#define CRSF_VERSION_MINOR 8
 #define CRSF_VERSION_PATCH 0
 #define CRSF_VERSION "0.8.0"
 
