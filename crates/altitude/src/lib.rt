@@ -1,11 +1,13 @@
 // Altitudes as the records carry them, and in the unit that each record is kept in: GPS altitude in metres, barometric altitude in decimetres.
+#![tactic(auto)]
+
 ghost use Rattle.std.specs.Prelude.{◌≡◌, ◌≤◌};
 ghost use Rattle.altitude.specs.Altitude.{metres_of, decimetres_of, pack_of, pack_raised};
 
-#[derive(Drop)]
+#[derive(Clone, Copy)]
 pub struct Metres(pub i32);
 
-#[derive(Drop)]
+#[derive(Clone, Copy)]
 pub struct Decimetres(pub i32);
 
 // GPS: whole metres with 1000 added.

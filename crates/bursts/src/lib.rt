@@ -1,4 +1,6 @@
 // A burst: RC channels of up to eight sets as frames one after another. All or nothing, and nothing past the last frame.
+#![tactic(auto)]
+
 ghost use Rattle.std.specs.Prelude.{◌≡◌, ◌+◌, ◌*◌, ◌≤◌, length};
 ghost use Rattle.base.specs.Parts.{part, pasted};
 ghost use Rattle.reading.specs.Frame.{joined};

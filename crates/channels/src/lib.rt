@@ -1,4 +1,6 @@
 // RC channels (0x16): sixteen channels of 11 bits in 22 bytes.
+#![tactic(auto)]
+
 ghost use Rattle.std.specs.Prelude.{◌≡◌, ◌+◌, ◌*◌, ◌≤◌, ◌<◌, length, get_or};
 ghost use Rattle.base.specs.Parts.{part, pasted, placed};
 ghost use Rattle.layout.specs.Decoded.{read_row};
@@ -16,11 +18,11 @@ const COUNT: usize = 16;
 const GREATEST: u16 = 2047;
 
 // Raw channel values. Those up to 2047 can be written.
-#[derive(Drop)]
+#[derive(Clone, Copy)]
 pub struct RcChannelsPacked(pub [u16; COUNT]);
 
 // An enum holds no array, so the channels stand beside the answer: all 0 with a refusal.
-#[derive(Drop)]
+#[derive(Clone, Copy)]
 pub struct ChannelsRead {
     pub answer: ReadAnswer,
     pub channels: RcChannelsPacked,

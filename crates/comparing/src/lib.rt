@@ -1,5 +1,7 @@
 // Two uploads of one flight, compared answer by answer: as much of the text of where they differ as what is there of both gives, and a buffer has room
 // for. What is unread of an upload stands in the caller's bytes: nothing of it is held here.
+#![tactic(auto)]
+
 mod next;
 mod text;
 mod turn;
@@ -16,7 +18,7 @@ use stream::LIMIT;
 pub const LONGEST_TURN: usize = 95;
 
 // What a comparison asks for.
-#[derive(Drop)]
+#[derive(Clone, Copy)]
 pub enum Wants {
     // More bytes of the left upload, or of the right one: there is no answer in those that are left of it.
     Left,
@@ -30,7 +32,7 @@ pub enum Wants {
 }
 
 // How many bytes of each upload are done with, how many pairs agreed and differed so far, how many bytes were written, and what is asked for.
-#[derive(Drop)]
+#[derive(Clone, Copy)]
 pub struct Compared {
     pub left: usize,
     pub right: usize,

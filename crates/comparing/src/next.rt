@@ -13,7 +13,7 @@ use stream::step::{Reply, asks_for_more, step_in};
 
 // The answer that stands there, as the stream says it of a piece with nothing held before it, and how many bytes it drops: none where there is no
 // answer yet.
-#[derive(Drop)]
+#[derive(Clone, Copy)]
 pub(crate) struct Next {
     pub reply: Reply,
     pub size: usize,

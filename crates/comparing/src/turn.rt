@@ -13,7 +13,7 @@ use base::{is_same, narrow};
 use stream::LIMIT;
 
 // How many bytes of each side are done with, the counts, the place behind the text, and what is asked for.
-#[derive(Drop)]
+#[derive(Clone, Copy)]
 pub(crate) struct Turned {
     pub left: usize,
     pub right: usize,

@@ -2,6 +2,8 @@
 // after each piece: a line for each cut, with every answer. An answer is @ and its position, then a refusal's number and two values (0 where it carries
 // fewer), or 0 and a frame's bytes. However the input is cut, the same answers come in the same order at the same positions, and the same bytes are
 // held. model.py made the stored output, without this code.
+#![tactic(auto)]
+
 ghost use Rattle.std.specs.Prelude.{◌≤◌};
 ghost use Rattle.parser.specs.Parser.{Nexts};
 
@@ -14,7 +16,7 @@ use view::frame;
 use writing::Written;
 
 // How the parser is kept from call to call, and from piece to piece.
-#[derive(Drop)]
+#[derive(Clone, Copy)]
 enum Way {
     ByValue,
     Lent,

@@ -1,3 +1,5 @@
+#![tactic(auto)]
+
 fn main() {
     diff_io::crsf_diff();
 }

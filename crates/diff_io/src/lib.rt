@@ -2,6 +2,8 @@
 // hands to a write is promised, and so is that what came stands behind what was unread; that all parts are a run of crate comparing over what was read is
 // what the loop keeps (proofs/Kept). What is known is written before more is read, and more is read of an upload only where its next answer is not there.
 // A read or a write that fails ends the comparison.
+#![tactic(auto)]
+
 mod command;
 
 ghost use Rattle.std.specs.Prelude.{◌≡◌, true, ◌-◌, ◌≤◌, length, take};
@@ -16,7 +18,7 @@ use program::{Asked, print, read_some};
 use stream::LIMIT;
 
 // How a comparison ended.
-#[derive(Drop)]
+#[derive(Clone, Copy)]
 enum Ended {
     // All of the text is written, and it names no difference.
     Same,
@@ -32,7 +34,7 @@ enum Ended {
 }
 
 // Where the unread bytes of an upload stand in its block, whether nothing comes behind them, and whether a read failed.
-#[derive(Drop)]
+#[derive(Clone, Copy)]
 struct Fed {
     from: usize,
     to: usize,
@@ -41,7 +43,7 @@ struct Fed {
 }
 
 // A part of the text, and whether it was written.
-#[derive(Drop)]
+#[derive(Clone, Copy)]
 struct Part {
     compared: Compared,
     is_written: bool,

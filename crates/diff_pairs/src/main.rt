@@ -1,5 +1,7 @@
 // The program diff on several stored pairs of files, one after another: NAME.left beside NAME.right, behind a line with the name. Then single calls of
 // the comparison, at its edges.
+#![tactic(auto)]
+
 mod edges;
 
 use diff_io::diff_files;

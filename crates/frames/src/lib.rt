@@ -2,6 +2,8 @@
 // `write_packet_to_buffer` is generic over the record; here each record has its own.
 // Once the address is known to be good, the record's own writer is lent the places of the payload, behind the head and before the check byte:
 // it writes there, or refuses as it would anywhere and changes no byte.
+#![tactic(auto)]
+
 mod frame;
 
 ghost use Rattle.std.specs.Prelude.{◌≡◌, ◌∷◌};

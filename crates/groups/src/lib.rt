@@ -1,4 +1,6 @@
 // Numbers in groups of seven bits: specs/Groups says what they are, specs/Reading how one is read, byte by byte or at the front of a string.
+#![tactic(auto)]
+
 ghost use Rattle.std.specs.Prelude.{◌≡◌, ◌+◌, ◌%◌, ◌≤◌, ◌<◌, length};
 ghost use Rattle.base.specs.Parts.{pasted};
 ghost use Rattle.writing.specs.Writing.{written_row};
@@ -12,7 +14,7 @@ use refusals::Refusal;
 use writing::Written;
 
 // What one byte makes of a number that is begun.
-#[derive(Drop)]
+#[derive(Clone, Copy)]
 pub enum Step {
     // It goes on: its value so far, and what its next group is worth (1, 128, 128 * 128 ..).
     GoesOn { value: u64, weight: u64 },
@@ -21,7 +23,7 @@ pub enum Step {
 }
 
 // What stands at the front of a string.
-#[derive(Drop)]
+#[derive(Clone, Copy)]
 pub enum Front {
     // A number, which takes up that many bytes.
     Number { value: u64, size: usize },

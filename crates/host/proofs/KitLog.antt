@@ -8,8 +8,8 @@ use native.Mathlib.Omega.{arith}
 use lib.ListN.{length}
 use Rattle.base.proofs.Tests.{by_test}
 use Rattle.writing.specs.Writing.{write_of}
-use Rattle.log.specs.Entry.{greatest}
-use Rattle.log.proofs.Laws.{empty_log}
+use Rattle.kit_log.specs.Entry.{greatest}
+use Rattle.kit_log.proofs.Laws.{empty_log}
 use Rattle.log_writer.specs.Writer.{start_image, is_frame, entry_image}
 use Rattle.log_writer.proofs.Frames.{frame_decided}
 use Rattle.log_writer.proofs.Laws.{entry_size}

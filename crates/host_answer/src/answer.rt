@@ -7,7 +7,7 @@ use base::narrow;
 use refusals::{Refusal, row_of};
 
 // What every entry answers. The eighth byte is 0. A field that an answer does not speak of is 0.
-#[derive(Drop)]
+#[derive(Clone, Copy)]
 pub struct HostAnswer {
     // 0, or a refusal's number; 255 where a call asks for more
     pub number: u8,

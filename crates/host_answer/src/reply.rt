@@ -8,7 +8,7 @@ use host_state::PLACES;
 use stream::step::{Place, Replied, Reply};
 
 // The eight bytes, and how many bytes the answer dropped: a refusal of a valid state's stream drops one.
-#[derive(Drop)]
+#[derive(Clone, Copy)]
 pub struct Told {
     pub answer: u64,
     pub dropped: usize,

@@ -17,9 +17,9 @@ use Rattle.refusals.specs.declared.Refusal.{Refusal}
 use Rattle.refusals.specs.declared.Refusal.TheVariants.{InvalidLog, InvalidFrame}
 use Rattle.numbers.specs.BigEndian as be
 use Rattle.reading.specs.Reading.{limit}
-use Rattle.log.specs.Entry.{greatest}
-use Rattle.log.specs.Room.{Small}
-use Rattle.log.proofs.Weights.{weight_low}
+use Rattle.kit_log.specs.Entry.{greatest}
+use Rattle.kit_log.specs.Room.{Small}
+use Rattle.kit_log.proofs.Weights.{weight_low}
 use Rattle.log_reader.specs.State as reader
 use Rattle.log_reader.specs.State.{weight_of, of_logs}
 use Rattle.log_reader.specs.Seen.{held_by}

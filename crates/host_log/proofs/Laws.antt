@@ -16,8 +16,8 @@ use Rattle.host_answer.specs.Seen.{unpacked}
 use Rattle.host_answer.proofs.Packing.{unpack}
 use Rattle.host_answer.proofs.Numbers.{refusal_bytes, refusal_bytes_lem, row_bytes}
 use Rattle.host_answer.proofs.Fits.{Fits}
-use Rattle.log.specs.Entry as log
-use Rattle.log.specs.Call.{gives}
+use Rattle.kit_log.specs.Entry as log
+use Rattle.kit_log.specs.Call.{gives}
 use Rattle.log_reader.specs.Reader.{said_by}
 use Rattle.log_reader.specs.declared.Place.TheVariants.{InPiece, InHeld}
 use Rattle.log_reader.specs.declared.Answer.{Answer}

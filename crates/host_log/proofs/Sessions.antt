@@ -9,11 +9,11 @@ use native.Mathlib.Omega.{arith}
 use borrow.Author.Tests.{eq-eqb}
 use lib.ListN.{length, drop}
 use Rattle.reading.specs.Reading.{limit}
-use Rattle.log.specs.Entry.{Entry, greatest}
-use Rattle.log.specs.Reading.{State}
-use Rattle.log.specs.Call.{Call, call, given, Faithful}
-use Rattle.log.specs.Room.{Small}
-use Rattle.log.proofs.Small.{call_small}
+use Rattle.kit_log.specs.Entry.{Entry, greatest}
+use Rattle.kit_log.specs.Reading.{State}
+use Rattle.kit_log.specs.Call.{Call, call, given, Faithful}
+use Rattle.kit_log.specs.Room.{Small}
+use Rattle.kit_log.proofs.Small.{call_small}
 use Rattle.log_reader.specs.State as reader
 use Rattle.log_reader.specs.Reader.{said_by, Runs, Nexts}
 use Rattle.log_reader.specs.Session as reader-session

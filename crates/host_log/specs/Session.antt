@@ -1,8 +1,8 @@
 -- Any run of calls of `crsf_log_next` over a state, from a reset on (RULES 16.12).
 -- Assumes nothing.
 use Rattle.std.specs.Prelude.{ℕ, ◌≡◌, List, [], ◌++◌, length, drop}
-use Rattle.log.specs.Entry.{Entry}
-use Rattle.log.specs.Call.{given}
+use Rattle.kit_log.specs.Entry.{Entry}
+use Rattle.kit_log.specs.Call.{given}
 use Rattle.log_reader.specs.Reader.{said_by}
 use Rattle.host_log.specs.State.{size, places_in}
 use Rattle.host_log.specs.Calls.{StateSteps, reset_state}

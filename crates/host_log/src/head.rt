@@ -14,7 +14,7 @@ pub const PLACES: usize = 11;
 pub const SIZE: usize = PLACES + LIMIT;
 
 // The head as numbers. What a stage does not use is 0.
-#[derive(Drop)]
+#[derive(Clone, Copy)]
 struct Head {
     // 0 in the first number, 1 in the seconds of an entry, 2 in the length of its frame, 3 in the frame; 4 ended, 5 refused with 9, 6 with 10
     stage: u8,

@@ -1,5 +1,7 @@
 // A log's reader for a host: its state as lent bytes, one call, the end and a reset over it, and what they answer, in eight bytes. Where each field of the
 // state stands is said in `head` alone.
+#![tactic(auto)]
+
 pub mod answer;
 pub mod head;
 
@@ -12,7 +14,7 @@ use log_reader::{Answer, Ending};
 use refusals::{Refusal, row_of};
 
 // What a call took and says.
-#[derive(Drop)]
+#[derive(Clone, Copy)]
 pub struct Replied {
     pub taken: usize,
     pub answer: Answer,

@@ -1,4 +1,6 @@
 // The numbers of a record, at the front of a lent slice.
+#![tactic(auto)]
+
 ghost use Rattle.std.specs.Prelude.{◌≡◌, ◌<◌};
 ghost use Rattle.positions.specs.Gps.{gps_values};
 ghost use Rattle.positions.specs.GpsExtended.{gps_extended_values};

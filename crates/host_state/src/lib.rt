@@ -1,5 +1,7 @@
 // The host's state: lent bytes that hold start, end, the places of the held bytes, and the position of the first of them. Its size, and where each of
 // these stands, are said here alone.
+#![tactic(auto)]
+
 ghost use Rattle.std.specs.Prelude.{◌≡◌, ◌-◌};
 ghost use Rattle.base.specs.Parts.{placed};
 ghost use Rattle.numbers.specs.BigEndian.{bytes_of};

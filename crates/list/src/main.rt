@@ -1,3 +1,5 @@
+#![tactic(auto)]
+
 fn main() {
     listing_io::crsf_list();
 }

@@ -1,3 +1,5 @@
+#![tactic(auto)]
+
 fn main() {
     where_io::crsf_where();
 }

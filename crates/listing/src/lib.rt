@@ -1,4 +1,6 @@
 // The lines of the answers to an input, as many as a buffer that the caller lends has room for, with or without positions before them.
+#![tactic(auto)]
+
 pub mod numbering;
 
 ghost use Rattle.std.specs.Prelude.{◌≡◌, true, ◌+◌, ◌-◌, ◌≤◌, length};
@@ -13,7 +15,7 @@ use refusals::Refusal;
 use stream::step::{Moved, asks_for_more, is_span, step_in};
 
 // Why a listing ended.
-#[derive(Drop)]
+#[derive(Clone, Copy)]
 pub enum Status {
     // All answers are given, and more input is asked for.
     More,
@@ -24,7 +26,7 @@ pub enum Status {
 }
 
 // Where the held bytes stand now, the numbering of the next line, how many bytes of the input were taken, and how many were written.
-#[derive(Drop)]
+#[derive(Clone, Copy)]
 pub struct Listed {
     pub start: usize,
     pub end: usize,
@@ -35,7 +37,7 @@ pub struct Listed {
 }
 
 // One call of the stream, and the place behind its line.
-#[derive(Drop)]
+#[derive(Clone, Copy)]
 struct Turn {
     moved: Moved,
     at: usize,

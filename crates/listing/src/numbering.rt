@@ -7,7 +7,7 @@ ghost use Rattle.listing.specs.Numbering.{lead, room_for, is_countable, Reaches,
 use lines::line::{LONGEST, LONGEST_POSITION, put_position};
 use numbered::is_within;
 
-#[derive(Drop)]
+#[derive(Clone, Copy)]
 pub enum Numbering {
     // Nothing.
     Off,

@@ -1,6 +1,8 @@
 // The listing of a file or of standard input on standard output, through fixed buffers, with positions before its lines or without. What a read yields
 // and what becomes of a write is outside any contract; the lines of what was read, handed to a write, are promised, and so is what is held after a
 // piece, and the position there. What was read is listed and written before more is read. A read or a write that fails ends the listing.
+#![tactic(auto)]
+
 mod command;
 
 ghost use Rattle.std.specs.Prelude.{◌≡◌, ◌≤◌, ◌<◌, length};
@@ -15,7 +17,7 @@ use program::{print, read_some};
 use stream::LIMIT;
 
 // How a listing ended.
-#[derive(Drop)]
+#[derive(Clone, Copy)]
 enum Ended {
     // All of the input is listed, with the line of this many held bytes.
     Listed(u8),
@@ -28,7 +30,7 @@ enum Ended {
 }
 
 // What comes next.
-#[derive(Drop)]
+#[derive(Clone, Copy)]
 enum Next {
     // Another read.
     Read,
@@ -40,7 +42,7 @@ enum Next {
 }
 
 // Where the held bytes stand, the numbering of the next line, and what comes next.
-#[derive(Drop)]
+#[derive(Clone, Copy)]
 struct State {
     start: usize,
     end: usize,
@@ -49,7 +51,7 @@ struct State {
 }
 
 // The lines of a part of a piece, and whether they were written.
-#[derive(Drop)]
+#[derive(Clone, Copy)]
 struct Part {
     listed: Listed,
     is_written: bool,

@@ -10,7 +10,7 @@ use refusals::row_of;
 use writing::Written;
 
 // Where a reading has come to: how many bytes it took, and how many were written again.
-#[derive(Drop)]
+#[derive(Clone, Copy)]
 pub struct Fed {
     pub reader: Reader,
     pub taken: usize,
@@ -18,7 +18,7 @@ pub struct Fed {
 }
 
 // What a reading came to, with the number of its end, which is 0 where what was read is a log.
-#[derive(Drop)]
+#[derive(Clone, Copy)]
 pub struct Seen {
     pub taken: usize,
     pub again: usize,

@@ -1,6 +1,8 @@
 // Kit logs written and read, in several cuts. The standard input has items, each behind a byte that counts its bytes. An item is a letter and then bytes:
 // `h` a heading, `w` which seconds and a frame, to be written as an entry, `r` a log to be read, `e` a log after whose end more is asked. A line for each, and a last one for
 // the log of all entries. model.py made the input and the stored output, without this code.
+#![tactic(auto)]
+
 mod cuts;
 mod ended;
 mod feed;

@@ -3,9 +3,9 @@
 use mathlib.Core.Path.{◌≡◌, sym, ap, ◌∙◌}
 use mathlib.Core.List.{List, ◌++◌}
 use Prim.Native.Nat.{ℕ}
-use Rattle.log.specs.Reading as log
-use Rattle.log.specs.Reading.{start, Reading, read_from, reading}
-use Rattle.log.proofs.Reading.{goes_on}
+use Rattle.kit_log.specs.Reading as log
+use Rattle.kit_log.specs.Reading.{start, Reading, read_from, reading}
+use Rattle.kit_log.proofs.Reading.{goes_on}
 use Rattle.log_reader.specs.State.{state_of}
 use Rattle.log_reader.specs.declared.Reader.{Reader}
 use Rattle.log_io.specs.State.{Leaves}

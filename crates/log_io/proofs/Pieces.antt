@@ -7,7 +7,7 @@ use Prim.Native.Nat.{ℕ, ◌*◌, ◌≤◌}
 use borrow.Author.Tests.{le-leb, le-ltb}
 use lib.ListN.{length}
 use Rattle.reading.specs.Reading.{limit}
-use Rattle.log.specs.Reading.{read_from}
+use Rattle.kit_log.specs.Reading.{read_from}
 use Rattle.log_reader.specs.State.{state_of, is_state}
 use Rattle.log_reader.specs.declared.Wanted.TheVariants.{Version}
 use Rattle.log_reader.specs.declared.Reader.{Reader}

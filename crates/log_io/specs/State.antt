@@ -1,8 +1,8 @@
 -- What is kept between pieces of a log, what a piece leaves, how a listing ends, and its status (RULES 16).
 -- Assumes nothing.
 use Rattle.std.specs.Prelude.{ℕ, ◌*◌, ◌≤◌, ◌≡◌, Bool, true, false, List}
-use Rattle.log.specs.Reading as log
-use Rattle.log.specs.Reading.{read_from, finish}
+use Rattle.kit_log.specs.Reading as log
+use Rattle.kit_log.specs.Reading.{read_from, finish}
 use Rattle.log_reader.specs.State.{state_of, is_state}
 use Rattle.log_reader.specs.Reader.{ending_of}
 use Rattle.log_reader.specs.declared.Reader.{Reader}

@@ -2,6 +2,8 @@
 // outside any contract. The lines of a piece are those of `log_lines::list_part`, promised there; promised here are where the reader stands after a
 // piece, how the log ends, and the status. That lines are handed to a write is seen in the stored run.
 // What was read is listed and written before more is read. A log that is refused is read no further.
+#![tactic(auto)]
+
 mod command;
 
 ghost use Rattle.std.specs.Prelude.{◌≡◌, true, ◌*◌, ◌≤◌, length};
@@ -22,7 +24,7 @@ const PIECE: usize = 2048;
 const LAST: usize = 11;
 
 // How a listing ended.
-#[derive(Drop)]
+#[derive(Clone, Copy)]
 enum Ended {
     // The last line is written: what it says.
     Listed(Ending),
@@ -33,7 +35,7 @@ enum Ended {
 }
 
 // What comes next.
-#[derive(Drop)]
+#[derive(Clone, Copy)]
 enum Next {
     // Another read.
     Read,
@@ -43,7 +45,7 @@ enum Next {
     WriteFailed,
 }
 
-#[derive(Drop)]
+#[derive(Clone, Copy)]
 struct State {
     reader: Reader,
     next: Next,

@@ -7,10 +7,10 @@ use native.Mathlib.Omega.{arith}
 use lib.ListN.{length, drop}
 use Rattle.refusals.specs.declared.Refusal.{Refusal}
 use Rattle.refusals.specs.declared.Refusal.TheVariants.{InvalidLog}
-use Rattle.log.specs.Entry.{Entry}
-use Rattle.log.specs.Reading.{State, number, frame, refused, ended, Fed, on, entry, feed, takes, Reading, before, read_from}
-use Rattle.log.specs.Call.{Said, said_at, gives, refuses, Call, call, given}
-use Rattle.log.proofs.History.{call_on, call_entry, call_refused, call_ended, call_reads}
+use Rattle.kit_log.specs.Entry.{Entry}
+use Rattle.kit_log.specs.Reading.{State, number, frame, refused, ended, Fed, on, entry, feed, takes, Reading, before, read_from}
+use Rattle.kit_log.specs.Call.{Said, said_at, gives, refuses, Call, call, given}
+use Rattle.kit_log.proofs.History.{call_on, call_entry, call_refused, call_ended, call_reads}
 
 none_at : (st : State) → given (said_at st) ≡ []
 unfolding given said_at

@@ -8,7 +8,7 @@ use Rattle.reading.specs.Reading.{passes}
 use Rattle.groups.specs.Reading.{step, further, valued, final}
 use Rattle.lines.specs.Digits.{hex_digit, decimal_within}
 use Rattle.lines.specs.Lines.{frame_line}
-use Rattle.log.specs.Reading.{meaning, feed_number, fine, feed_frame, feed, takes, after, answered, read_from, finish}
+use Rattle.kit_log.specs.Reading.{meaning, feed_number, fine, feed_frame, feed, takes, after, answered, read_from, finish}
 use Rattle.log_reader.specs.Reader.{ending_of}
 use Rattle.log_lines.specs.Text.{entry_line, entry_lines, refusal_line, ending_line, whole_text}
 use Rattle.log_lines.specs.Examples.{Example, examples}

@@ -13,12 +13,12 @@ use Rattle.base.specs.Parts.{pasted}
 use Rattle.refusals.specs.declared.Refusal.TheVariants.{BufferOverflow, BadState}
 use Rattle.lines.specs.Put.{Puts, put_within}
 use Rattle.lines.proofs.Puts.{puts_none, puts_then, puts_as, length_puts, puts_within, within_nothing}
-use Rattle.log.specs.Entry.{Entry}
-use Rattle.log.specs.Reading as log
-use Rattle.log.specs.Reading.{State, Reading, read_from}
-use Rattle.log.specs.Call.{Said, said_at, Call, call, given}
-use Rattle.log.proofs.Reading.{before_before, before_nil}
-use Rattle.log.proofs.History.{call_all}
+use Rattle.kit_log.specs.Entry.{Entry}
+use Rattle.kit_log.specs.Reading as log
+use Rattle.kit_log.specs.Reading.{State, Reading, read_from}
+use Rattle.kit_log.specs.Call.{Said, said_at, Call, call, given}
+use Rattle.kit_log.proofs.Reading.{before_before, before_nil}
+use Rattle.kit_log.proofs.History.{call_all}
 use Rattle.log_reader.specs.State.{state_of, is_state}
 use Rattle.log_reader.specs.Reader.{said_by, Runs}
 use Rattle.log_reader.specs.declared.Reader.{Reader}

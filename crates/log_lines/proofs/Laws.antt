@@ -12,9 +12,9 @@ use Rattle.refusals.specs.declared.Refusal.{Refusal}
 use Rattle.reading.specs.Answer.{Frame}
 use Rattle.lines.specs.Put.{put_within}
 use Rattle.lines.specs.Lines.{frame_line, frame_line_at, line}
-use Rattle.log.specs.Entry.{Entry}
-use Rattle.log.specs.Reading.{State, refused, start, Reading, read_from, reading}
-use Rattle.log.proofs.Reading.{goes_on, stays_refused}
+use Rattle.kit_log.specs.Entry.{Entry}
+use Rattle.kit_log.specs.Reading.{State, refused, start, Reading, read_from, reading}
+use Rattle.kit_log.proofs.Reading.{goes_on, stays_refused}
 use Rattle.log_lines.specs.Part.{front_of}
 use Rattle.log_lines.specs.Text.{entry_line, entry_lines, last_line, whole_text, text_from}
 

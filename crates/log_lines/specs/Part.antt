@@ -6,9 +6,9 @@ use Rattle.base.specs.Parts.{pasted}
 use Rattle.refusals.specs.declared.Refusal.{Refusal}
 use Rattle.refusals.specs.declared.Refusal.TheVariants.{BufferOverflow, BadState}
 use Rattle.lines.specs.Put.{put_within}
-use Rattle.log.specs.Reading.{State, read_from}
-use Rattle.log.specs.Call as call
-use Rattle.log.specs.Call.{Said, more, gives, said_at, given}
+use Rattle.kit_log.specs.Reading.{State, read_from}
+use Rattle.kit_log.specs.Call as call
+use Rattle.kit_log.specs.Call.{Said, more, gives, said_at, given}
 use Rattle.log_reader.specs.State.{state_of, is_state}
 use Rattle.log_reader.specs.Reader.{said_by, Nexts}
 use Rattle.log_reader.specs.declared.Reader.{Reader}

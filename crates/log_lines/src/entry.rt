@@ -1,7 +1,7 @@
 // What the listing makes of one answer of the reader.
 ghost use Rattle.std.specs.Prelude.{◌≡◌, ◌+◌, ◌≤◌};
 ghost use Rattle.lines.specs.Put.{put_within};
-ghost use Rattle.log.specs.Call.{given};
+ghost use Rattle.kit_log.specs.Call.{given};
 ghost use Rattle.log_reader.specs.Reader.{said_by};
 ghost use Rattle.log_lines.specs.Text.{longest_entry, entry_line, entry_lines};
 ghost use Rattle.log_lines.specs.Part.{gave, status_by};

@@ -1,4 +1,6 @@
 // The lines of a log: those of the entries in a part of it, in a buffer that the caller lends, and the last one.
+#![tactic(auto)]
+
 mod entry;
 
 ghost use Rattle.std.specs.Prelude.{◌≡◌, true, ◌*◌, ◌≤◌, length};
@@ -16,7 +18,7 @@ use refusals::{Refusal, row_of};
 pub const LONGEST_ENTRY: usize = 27;
 
 // Why a part ended.
-#[derive(Drop)]
+#[derive(Clone, Copy)]
 pub enum Status {
     // All of it is listed, and the log goes on or ends.
     More,
@@ -25,7 +27,7 @@ pub enum Status {
 }
 
 // The reader behind the part, and how many bytes were written.
-#[derive(Drop)]
+#[derive(Clone, Copy)]
 pub struct Listed {
     pub reader: Reader,
     pub written: usize,
@@ -33,7 +35,7 @@ pub struct Listed {
 }
 
 // One call of the reader, and the place behind its line.
-#[derive(Drop)]
+#[derive(Clone, Copy)]
 struct Turn {
     answered: Answered,
     at: usize,

@@ -21,14 +21,14 @@ use Rattle.crc.specs.declared.Check.TheVariants.{Right, Wrong}
 use Rattle.packets.specs.Listed.{listed}
 use Rattle.reading.specs.Answer.{covered, carried}
 use Rattle.reading.specs.Reading.{limit, passes}
-use Rattle.log.specs.Reading.{frame, on, fine, feed_frame}
+use Rattle.kit_log.specs.Reading.{frame, on, fine, feed_frame}
 use Rattle.log_reader.specs.State.{held_fine, is_state}
 use Rattle.log_reader.specs.Parts.{may_follow, LastByte, FedFrame}
 use Rattle.log_reader.specs.declared.Reader.TheVariants.{Frame, Refused}
 use Rattle.log_reader.specs.declared.Turn.{Turn}
 use Rattle.log_reader.specs.declared.Turn.TheVariants as turn
-use Rattle.log.proofs.Agrees.{feed_part, feed_whole, feed_bad}
-use Rattle.log.proofs.Frames.{Fine, fine_says, says_fine}
+use Rattle.kit_log.proofs.Agrees.{feed_part, feed_whole, feed_bad}
+use Rattle.kit_log.proofs.Frames.{Fine, fine_says, says_fine}
 use Rattle.log_reader.proofs.Readers.{of_logs_10, state_held, stands_refused, state_room, state_standing}
 
 -- ---- a frame that is begun

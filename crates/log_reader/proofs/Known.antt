@@ -13,9 +13,9 @@ use Rattle.base.specs.Choice.{if◌then◌else◌}
 use Rattle.base.specs.Parts.{part}
 use Rattle.base.proofs.Parts.{length_part}
 use Rattle.base.proofs.Tests.{by_test}
-use Rattle.log.specs.Reading.{Want, version, seconds, size, State, number, frame, refused, ended}
-use Rattle.log.specs.Call.{Said, more, gives, refuses, Call, call}
-use Rattle.log.proofs.Weights.{groups_at, weight_back}
+use Rattle.kit_log.specs.Reading.{Want, version, seconds, size, State, number, frame, refused, ended}
+use Rattle.kit_log.specs.Call.{Said, more, gives, refuses, Call, call}
+use Rattle.kit_log.proofs.Weights.{groups_at, weight_back}
 use Rattle.log_reader.specs.State.{want_of, weight_of, state_of, is_state}
 use Rattle.log_reader.specs.Reader.{said_by, Placed, Runs, Nexts, Finishes, Closes}
 use Rattle.log_reader.specs.Seen.{held_by, frame_among, Seen, seen}

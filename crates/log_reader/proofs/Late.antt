@@ -16,9 +16,9 @@ use Rattle.groups.specs.declared.Step.{Step}
 use Rattle.groups.specs.declared.Step.TheVariants.{GoesOn, Done, Malformed}
 use Rattle.reading.specs.Reading.{limit}
 use Rattle.refusals.specs.declared.Refusal.TheVariants.{InvalidFrame}
-use Rattle.log.specs.Entry.{Entry, greatest}
-use Rattle.log.specs.Reading.{Want, version, seconds, size, State, number, frame, refused, ended, boundary, Fed, on, entry, meaning, feed_number, fine, feed_frame, feed}
-use Rattle.log.proofs.Agrees.{feed_part, feed_whole, feed_bad, snoc}
+use Rattle.kit_log.specs.Entry.{Entry, greatest}
+use Rattle.kit_log.specs.Reading.{Want, version, seconds, size, State, number, frame, refused, ended, boundary, Fed, on, entry, meaning, feed_number, fine, feed_frame, feed}
+use Rattle.kit_log.proofs.Agrees.{feed_part, feed_whole, feed_bad, snoc}
 
 -- at place i of a piece of m bytes: no byte of the frame has come; or more than the piece has given; or it does not end in the piece
 abbrev pub Late : ℕ → ℕ → State → Type 0

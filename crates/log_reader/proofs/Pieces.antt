@@ -20,10 +20,10 @@ use Rattle.crc.specs.declared.Check.TheVariants.{Right, Wrong}
 use Rattle.packets.specs.Listed.{listed}
 use Rattle.reading.specs.Answer.{covered, carried}
 use Rattle.reading.specs.Reading.{limit, passes}
-use Rattle.log.specs.Entry.{Entry}
-use Rattle.log.specs.Reading.{State, frame, refused, boundary, on, entry, fine, feed_frame, feed, takes}
-use Rattle.log.specs.Strings.{Begins}
-use Rattle.log.specs.Call.{gives, refuses, later, call}
+use Rattle.kit_log.specs.Entry.{Entry}
+use Rattle.kit_log.specs.Reading.{State, frame, refused, boundary, on, entry, fine, feed_frame, feed, takes}
+use Rattle.kit_log.specs.Strings.{Begins}
+use Rattle.kit_log.specs.Call.{gives, refuses, later, call}
 use Rattle.log_reader.specs.State.{state_of, is_state}
 use Rattle.log_reader.specs.Reader.{said_by, Runs}
 use Rattle.log_reader.specs.Parts.{fresh_of, InOne}
@@ -35,9 +35,9 @@ use Rattle.log_reader.specs.declared.Answer.TheVariants as answer
 use Rattle.log_reader.specs.declared.Place.TheVariants as place
 use Rattle.log_reader.specs.declared.Answered.{Answered}
 use Rattle.log_reader.specs.declared.Fresh.{Fresh}
-use Rattle.log.proofs.History.{call_on, call_entry, call_refused}
-use Rattle.log.proofs.Agrees.{begins_front, feed_part, feed_whole, feed_bad, snoc}
-use Rattle.log.proofs.Frames.{begins_fine, fine_begins, says_fine, fine_says}
+use Rattle.kit_log.proofs.History.{call_on, call_entry, call_refused}
+use Rattle.kit_log.proofs.Agrees.{begins_front, feed_part, feed_whole, feed_bad, snoc}
+use Rattle.kit_log.proofs.Frames.{begins_fine, fine_begins, says_fine, fine_says}
 use Rattle.log_reader.proofs.FrameSteps.{Begun, begun, right_says, wrong_says}
 use Rattle.log_reader.proofs.Readers.{of_logs_10, stands_refused, stands_fresh, state_room}
 use Rattle.log_reader.proofs.Late as late

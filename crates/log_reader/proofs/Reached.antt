@@ -16,14 +16,14 @@ use Rattle.refusals.specs.declared.Refusal.{Refusal}
 use Rattle.refusals.specs.declared.Refusal.TheVariants.{InvalidLog, InvalidFrame}
 use Rattle.refusals.proofs.Rows.{back}
 use Rattle.reading.specs.Reading.{limit}
-use Rattle.log.specs.Reading.{frame, refused, fine}
-use Rattle.log.specs.Call.{refuses, Call, call}
-use Rattle.log.specs.Room.{Led, Small}
-use Rattle.log.proofs.Room.{at_most_71}
-use Rattle.log.proofs.History.{call_stops}
-use Rattle.log.proofs.Agrees.{anything}
-use Rattle.log.proofs.Frames.{fine_begins}
-use Rattle.log.proofs.Leads.{LedTo, number_led, frame_led, nine_led, ten_led, ended_led}
+use Rattle.kit_log.specs.Reading.{frame, refused, fine}
+use Rattle.kit_log.specs.Call.{refuses, Call, call}
+use Rattle.kit_log.specs.Room.{Led, Small}
+use Rattle.kit_log.proofs.Room.{at_most_71}
+use Rattle.kit_log.proofs.History.{call_stops}
+use Rattle.kit_log.proofs.Agrees.{anything}
+use Rattle.kit_log.proofs.Frames.{fine_begins}
+use Rattle.kit_log.proofs.Leads.{LedTo, number_led, frame_led, nine_led, ten_led, ended_led}
 use Rattle.log_reader.specs.State.{want_of, of_logs, state_of, is_state}
 use Rattle.log_reader.specs.Reader.{said_by, Runs}
 use Rattle.log_reader.specs.Seen.{held_by}

@@ -21,10 +21,10 @@ use Rattle.groups.specs.declared.Step.{Step}
 use Rattle.groups.specs.declared.Step.TheVariants.{GoesOn, Done, Malformed}
 use Rattle.groups.proofs.Reading.{step_done, on_below, on_weight, done_small}
 use Rattle.reading.specs.Reading.{limit}
-use Rattle.log.specs.Entry.{greatest}
-use Rattle.log.specs.Reading.{State, number, refused, meaning, fine, feed_number}
-use Rattle.log.proofs.Agrees.{size_means, no_size}
-use Rattle.log.proofs.Weights.{weight_next, weight_few, weight_low}
+use Rattle.kit_log.specs.Entry.{greatest}
+use Rattle.kit_log.specs.Reading.{State, number, refused, meaning, fine, feed_number}
+use Rattle.kit_log.proofs.Agrees.{size_means, no_size}
+use Rattle.kit_log.proofs.Weights.{weight_next, weight_few, weight_low}
 use Rattle.log_reader.specs.State.{want_of, weight_of, can_go_on, held_fine, of_logs, standing, is_state}
 use Rattle.log_reader.specs.Parts.{Is, Means, FedNumber}
 use Rattle.log_reader.specs.declared.Wanted.{Wanted}

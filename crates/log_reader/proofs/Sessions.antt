@@ -5,10 +5,10 @@ use mathlib.Core.Bool.{true}
 use Prim.Native.Nat.{ℕ}
 use mathlib.Core.List.{List, ◌++◌}
 use lib.ListN.{drop}
-use Rattle.log.specs.Entry.{Entry}
-use Rattle.log.specs.Reading.{State}
-use Rattle.log.specs.Call as calls
-use Rattle.log.specs.Call.{Call, call, given, History, Faithful}
+use Rattle.kit_log.specs.Entry.{Entry}
+use Rattle.kit_log.specs.Reading.{State}
+use Rattle.kit_log.specs.Call as calls
+use Rattle.kit_log.specs.Call.{Call, call, given, History, Faithful}
 use Rattle.log_reader.specs.State.{state_of, is_state}
 use Rattle.log_reader.specs.Reader.{said_by, shown_by}
 use Rattle.log_reader.specs.Session.{Session, begin, offer, ask}
@@ -16,7 +16,7 @@ use Rattle.log_reader.specs.declared.Wanted.TheVariants.{Version}
 use Rattle.log_reader.specs.declared.Reader.{Reader}
 use Rattle.log_reader.specs.declared.Answered.{Answered}
 use Rattle.log_reader.proofs.Readers.{stands_fresh}
-use Rattle.log.proofs.History.{faithful}
+use Rattle.kit_log.proofs.History.{faithful}
 
 asked : {stream : List ℕ} {from : State} {es : List Entry} (input behind after : List ℕ) (r : Answered)
     → shown_by input after r ≡ call from input → History stream from (input ++ behind) es

@@ -11,9 +11,9 @@ use lib.Dec.{eqb}
 use lib.ListN.{length, get_or, take, drop}
 use lib.Seq.{drop-cons, drop-length, length-take-le}
 use Rattle.base.proofs.Tests.{by_test}
-use Rattle.log.specs.Entry.{Entry}
-use Rattle.log.specs.Reading.{number, frame, refused, boundary, on, feed, takes, finish}
-use Rattle.log.specs.Call.{Said, gives, refuses, said_at, Call, later, call}
+use Rattle.kit_log.specs.Entry.{Entry}
+use Rattle.kit_log.specs.Reading.{number, frame, refused, boundary, on, feed, takes, finish}
+use Rattle.kit_log.specs.Call.{Said, gives, refuses, said_at, Call, later, call}
 use Rattle.log_reader.specs.State.{want_of, weight_of, can_go_on, of_logs, state_of, is_state}
 use Rattle.log_reader.specs.Reader.{said_by, Placed, Runs, Nexts, ending_of, Finishes, Closes}
 use Rattle.log_reader.specs.Parts.{stops, FedNumber, Turns, FedFrame, refusal_at, answer_at, fresh_of, end_number, end_reader, ending_at}
@@ -32,9 +32,9 @@ use Rattle.log_reader.specs.declared.Ending.{Ending}
 use Rattle.log_reader.specs.declared.Ending.TheVariants as ending
 use Rattle.log_reader.specs.declared.Turn.{Turn}
 use Rattle.log_reader.specs.declared.Turn.TheVariants as turn
-use Rattle.log.proofs.History.{call_on, call_entry, call_refused, call_ended}
+use Rattle.kit_log.proofs.History.{call_on, call_entry, call_refused, call_ended}
 use Rattle.log_reader.proofs.Readers.{of_logs_9, state_refused, state_ended, state_number, stands_refused, stands_fresh, state_room, few_groups}
-use Rattle.log.proofs.Weights.{weight_unit}
+use Rattle.kit_log.proofs.Weights.{weight_unit}
 use Rattle.log_reader.proofs.Late.{Late, Fresh, late_start, late_on, late_entry}
 
 -- ---- one byte

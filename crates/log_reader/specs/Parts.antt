@@ -6,8 +6,8 @@ use Rattle.refusals.specs.declared.Refusal.{Refusal}
 use Rattle.refusals.specs.declared.Refusal.TheVariants.{InvalidLog}
 use Rattle.packets.specs.Listed.{listed}
 use Rattle.reading.specs.Reading.{limit}
-use Rattle.log.specs.Reading.{State, frame, Fed, on, entry, meaning, feed_number, feed_frame, feed}
-use Rattle.log.specs.Call.{later, call}
+use Rattle.kit_log.specs.Reading.{State, frame, Fed, on, entry, meaning, feed_number, feed_frame, feed}
+use Rattle.kit_log.specs.Call.{later, call}
 use Rattle.log_reader.specs.State.{want_of, weight_of, state_of, is_state}
 use Rattle.log_reader.specs.Reader.{shown_by, Placed}
 use Rattle.log_reader.specs.declared.Wanted.{Wanted}

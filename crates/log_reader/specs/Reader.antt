@@ -3,8 +3,8 @@
 use Rattle.std.specs.Prelude.{◌≡◌, true, false, List, ℕ, ◌≤◌, ◌<◌, ◌+◌, length, take}
 use Rattle.base.specs.Parts.{part}
 use Rattle.refusals.specs.declared.Refusal.TheVariants.{BadState}
-use Rattle.log.specs.Reading.{State, number, frame, refused, ended, finish}
-use Rattle.log.specs.Call.{Said, more, gives, refuses, Call, call}
+use Rattle.kit_log.specs.Reading.{State, number, frame, refused, ended, finish}
+use Rattle.kit_log.specs.Call.{Said, more, gives, refuses, Call, call}
 use Rattle.log_reader.specs.State.{state_of, is_state}
 use Rattle.log_reader.specs.declared.Reader.{Reader}
 use Rattle.log_reader.specs.declared.Place.{Place}

@@ -2,8 +2,8 @@
 -- Assumes nothing.
 use Rattle.std.specs.Prelude.{ℕ, ◌≤◌, List, [], ◌++◌, length, drop}
 use Rattle.reading.specs.Reading.{limit}
-use Rattle.log.specs.Entry.{Entry}
-use Rattle.log.specs.Call.{given}
+use Rattle.kit_log.specs.Entry.{Entry}
+use Rattle.kit_log.specs.Call.{given}
 use Rattle.log_reader.specs.Reader.{said_by, Nexts}
 use Rattle.log_reader.specs.declared.Wanted.TheVariants.{Version}
 use Rattle.log_reader.specs.declared.Reader.{Reader}

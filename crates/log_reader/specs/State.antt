@@ -5,7 +5,7 @@ use Rattle.base.specs.Choice.{if◌then◌else◌}
 use Rattle.refusals.specs.Row.{number_of}
 use Rattle.refusals.specs.declared.Refusal.{Refusal}
 use Rattle.reading.specs.Reading.{limit}
-use Rattle.log.specs.Reading.{Want, version, seconds, size, State, number, frame, refused, ended, fine}
+use Rattle.kit_log.specs.Reading.{Want, version, seconds, size, State, number, frame, refused, ended, fine}
 use Rattle.log_reader.specs.declared.Wanted.{Wanted}
 use Rattle.log_reader.specs.declared.Wanted.TheVariants.{Version, Seconds, Size}
 use Rattle.log_reader.specs.declared.Reader.{Reader}

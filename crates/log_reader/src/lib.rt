@@ -1,5 +1,7 @@
 // The reader of a kit log: a state by value, over 64 places that the caller lends for the bytes of a frame that is begun; a call over one piece, and the
 // end. What is right is crate `log`.
+#![tactic(auto)]
+
 mod held;
 mod number;
 mod piece;
@@ -18,14 +20,14 @@ use run::run;
 use stream::LIMIT;
 
 // Which number is read: the first, the seconds of an entry, or the length of its frame, with its seconds.
-#[derive(Drop)]
+#[derive(Clone, Copy)]
 pub enum Wanted {
     Version,
     Seconds,
     Size(u32),
 }
 
-#[derive(Drop)]
+#[derive(Clone, Copy)]
 pub enum Reader {
     // In a number: its value so far, and how many of its groups have come.
     Number {
@@ -46,14 +48,14 @@ pub enum Reader {
 }
 
 // Where the frame of an entry stands: in the piece, or at the front of the places.
-#[derive(Drop)]
+#[derive(Clone, Copy)]
 pub enum Place {
     InPiece { at: usize, len: usize },
     InHeld(usize),
 }
 
 // What a call says.
-#[derive(Drop)]
+#[derive(Clone, Copy)]
 pub enum Answer {
     // All of the piece is taken, and more is asked for.
     More,
@@ -61,7 +63,7 @@ pub enum Answer {
     Refused(Refusal),
 }
 
-#[derive(Drop)]
+#[derive(Clone, Copy)]
 pub struct Answered {
     pub reader: Reader,
     pub taken: usize,
@@ -69,27 +71,27 @@ pub struct Answered {
 }
 
 // What the end says: what was read is a log, or a refusal.
-#[derive(Drop)]
+#[derive(Clone, Copy)]
 pub enum Ending {
     Log,
     Refused(Refusal),
 }
 
-#[derive(Drop)]
+#[derive(Clone, Copy)]
 pub struct Closed {
     pub reader: Reader,
     pub ending: Ending,
 }
 
 // What one byte makes of a reader.
-#[derive(Drop)]
+#[derive(Clone, Copy)]
 enum Turn {
     On(Reader),
     Entry { seconds: u32, len: usize },
 }
 
 // A frame that is to begin with the next byte; the size is 0 where none is.
-#[derive(Drop)]
+#[derive(Clone, Copy)]
 struct Fresh {
     seconds: u32,
     size: usize,

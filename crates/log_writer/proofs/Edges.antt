@@ -11,8 +11,8 @@ use Rattle.reading.specs.Reading.{passes}
 use Rattle.groups.specs.Groups.{groups_within, groups}
 use Rattle.groups.proofs.Groups.{one_group, more_groups}
 use Rattle.writing.specs.Writing.{bytes}
-use Rattle.log.specs.Entry.{greatest, entry_bytes}
-use Rattle.log.specs.Reading.{fine}
+use Rattle.kit_log.specs.Entry.{greatest, entry_bytes}
+use Rattle.kit_log.specs.Reading.{fine}
 use Rattle.log_writer.specs.Writer.{is_frame, entry_image}
 use Rattle.log_writer.proofs.Frames.{test_valid}
 use Rattle.log_writer.proofs.Laws.{image_valid}

@@ -13,9 +13,9 @@ use Rattle.reading.specs.Frame.{Valid}
 use Rattle.reading.proofs.Frame.{valid_shape}
 use Rattle.valid.specs.Valid.{Decides}
 use Rattle.valid.proofs.Decisions.{one_decision}
-use Rattle.log.specs.Reading.{fine}
-use Rattle.log.specs.Strings.{Begins}
-use Rattle.log.proofs.Frames.{begins_fine, fine_begins}
+use Rattle.kit_log.specs.Reading.{fine}
+use Rattle.kit_log.specs.Strings.{Begins}
+use Rattle.kit_log.proofs.Frames.{begins_fine, fine_begins}
 use Rattle.log_writer.specs.Writer.{is_frame}
 
 none : (r : List ℕ) → length r ≤ 0 → r ≡ []

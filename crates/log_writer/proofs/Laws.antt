@@ -27,10 +27,10 @@ use Rattle.groups.proofs.Steps.{one_long, more_long}
 use Rattle.reading.specs.Reading.{limit}
 use Rattle.reading.specs.Frame.{Valid}
 use Rattle.reading.proofs.Frame.{valid_shape}
-use Rattle.log.specs.Entry.{Entry, greatest, Sound, AllSound, entry_bytes, entries_bytes, log_bytes}
-use Rattle.log.specs.Reading.{boundary, reading}
-use Rattle.log.proofs.Laws.{Accepted, one_more}
-use Rattle.log.proofs.Laws as log
+use Rattle.kit_log.specs.Entry.{Entry, greatest, Sound, AllSound, entry_bytes, entries_bytes, log_bytes}
+use Rattle.kit_log.specs.Reading.{boundary, reading}
+use Rattle.kit_log.proofs.Laws.{Accepted, one_more}
+use Rattle.kit_log.proofs.Laws as log
 use Rattle.log_writer.specs.Writer.{is_frame, entry_image}
 use Rattle.log_writer.specs.Run as run
 use Rattle.log_writer.specs.Run.{Run}

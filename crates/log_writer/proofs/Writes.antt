@@ -17,7 +17,7 @@ use Rattle.writing.proofs.Writing.{writes, overflows, refuses}
 use Rattle.groups.specs.Groups.{groups}
 use Rattle.groups.specs.Writing.{put_of}
 use Rattle.groups.proofs.Laws.{put_fits, put_front}
-use Rattle.log.specs.Entry.{entry_bytes, entries_bytes, log_bytes}
+use Rattle.kit_log.specs.Entry.{entry_bytes, entries_bytes, log_bytes}
 use Rattle.log_writer.specs.Writer.{start_image, is_frame, entry_image}
 
 -- the number 1 is the log without entries

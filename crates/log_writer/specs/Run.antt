@@ -4,7 +4,7 @@ use Rattle.std.specs.Prelude.{◌≡◌, List, [], ◌∷◌, ◌++◌, ℕ, ◌
 use Rattle.refusals.specs.declared.Refusal.{Refusal}
 use Rattle.writing.specs.declared.Written.TheVariants.{Wrote, Refused}
 use Rattle.writing.specs.Writing.{written_row, write_of}
-use Rattle.log.specs.Entry.{Entry, greatest}
+use Rattle.kit_log.specs.Entry.{Entry, greatest}
 use Rattle.log_writer.specs.Writer.{start_image, entry_image}
 
 -- `Run buffer es at now`: of the buffer as it was, calls have made `now`; they wrote these entries, in `at` bytes. A call's `after` is what it left of

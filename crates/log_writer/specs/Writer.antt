@@ -6,8 +6,8 @@ use Rattle.base.specs.Choice.{if◌then◌else◌}
 use Rattle.reading.specs.Reading.{limit}
 use Rattle.refusals.specs.declared.Refusal.TheVariants.{InvalidFrame}
 use Rattle.writing.specs.Writing.{Image, bytes, refused}
-use Rattle.log.specs.Entry.{entry_bytes, log_bytes}
-use Rattle.log.specs.Reading.{fine}
+use Rattle.kit_log.specs.Entry.{entry_bytes, log_bytes}
+use Rattle.kit_log.specs.Reading.{fine}
 
 -- a log without entries
 abbrev pub start_image : Image

@@ -1,5 +1,7 @@
 // The writer of a kit log: its start, and one entry, each all or nothing at the front of the buffer. A log is a start and then entries, each put behind
 // the one before.
+#![tactic(auto)]
+
 ghost use Rattle.std.specs.Prelude.{◌≡◌};
 ghost use Rattle.writing.specs.Writing.{written_row, write_of};
 ghost use Rattle.log_writer.specs.Writer.{start_image, entry_image};

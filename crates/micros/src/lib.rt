@@ -1,10 +1,12 @@
 // A raw channel value in microseconds.
+#![tactic(auto)]
+
 ghost use Rattle.micros.specs.Micros.{microseconds_row, Answers};
 
 use refusals::Refusal;
 
 // Exactly that many microseconds. A raw value above 2047 is refused as channel 0.
-#[derive(Drop)]
+#[derive(Clone, Copy)]
 pub enum Microseconds {
     Exact(f32),
     Refused(Refusal),

@@ -1,4 +1,6 @@
 // One call of the stream whose bytes are numbered: the call over lent places, and the position of the first held byte, else of the next byte.
+#![tactic(auto)]
+
 ghost use Rattle.std.specs.Prelude.{◌≡◌, ◌+◌, ◌-◌, ◌≤◌, length};
 ghost use Rattle.reading.specs.Positions.{is_within};
 ghost use Rattle.numbered.specs.Step.{StepsAt, stays};
@@ -7,14 +9,14 @@ use refusals::Refusal;
 use stream::step::{Moved, Reply, is_span, step_in};
 
 // A call, and the position afterwards.
-#[derive(Drop)]
+#[derive(Clone, Copy)]
 pub struct Advanced {
     pub moved: Moved,
     pub position: u64,
 }
 
 // What a call says, how many bytes of the input it took, and where its answer began: at the position before the call.
-#[derive(Drop)]
+#[derive(Clone, Copy)]
 pub struct Answered {
     pub position: u64,
     pub taken: usize,

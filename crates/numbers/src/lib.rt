@@ -1,5 +1,7 @@
 // Numbers of 1 to 4 bytes, or of 8, in a slice, highest byte first. One reader and one writer serve every width. Bytes that a slice lacks are not read, and a
 // number that has no room is not written at all.
+#![tactic(auto)]
+
 ghost use Rattle.std.specs.Prelude.{◌≡◌, ◌+◌, ◌/◌, ◌^◌, ◌≤◌, ◌<◌, length};
 ghost use Rattle.numbers.specs.Width.{width_of};
 ghost use Rattle.numbers.specs.BigEndian.{be_of, bytes_of};

@@ -8,7 +8,7 @@ use altitude::Metres;
 use refusals::Refusal;
 use writing::Written;
 
-#[derive(Drop)]
+#[derive(Clone, Copy)]
 pub struct Gps {
     // Degrees times 10^7.
     pub latitude: i32,
@@ -22,7 +22,7 @@ pub struct Gps {
     pub satellites: u8,
 }
 
-#[derive(Drop)]
+#[derive(Clone, Copy)]
 pub enum GpsRead {
     Record(Gps),
     Refused(Refusal),

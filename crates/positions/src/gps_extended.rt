@@ -8,7 +8,7 @@ ghost use Rattle.positions.specs.GpsExtended.{gps_extended_layout, gps_extended_
 use refusals::Refusal;
 use writing::Written;
 
-#[derive(Drop)]
+#[derive(Clone, Copy)]
 pub struct GpsExtended {
     // Quality of the fix.
     pub fix_type: u8,
@@ -31,7 +31,7 @@ pub struct GpsExtended {
     pub v_dop: u8,
 }
 
-#[derive(Drop)]
+#[derive(Clone, Copy)]
 pub enum GpsExtendedRead {
     Record(GpsExtended),
     Refused(Refusal),

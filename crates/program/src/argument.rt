@@ -8,7 +8,7 @@ use crate::words::is_option;
 use base::is_same;
 use libc::STDERR_FILENO;
 
-#[derive(Drop)]
+#[derive(Clone, Copy)]
 pub enum Asked {
     // To read standard input.
     Input,
@@ -23,7 +23,7 @@ pub enum Asked {
 }
 
 // What is asked, and how many bytes the name of a file has.
-#[derive(Drop)]
+#[derive(Clone, Copy)]
 pub struct Arguments {
     pub asked: Asked,
     pub len: usize,

@@ -1,6 +1,8 @@
 // What every program for people shares: text to a descriptor, bytes from one, what failed and why on standard error, and what the arguments ask for.
 // What the system does with a descriptor, and which arguments there are, is outside any contract. A read or a write that a signal interrupted is asked
 // again.
+#![tactic(auto)]
+
 mod argument;
 pub mod words;
 
@@ -12,14 +14,14 @@ pub use argument::{Arguments, Asked, asked_by, read_arguments};
 use libc::{STDERR_FILENO, STDOUT_FILENO};
 
 // What a read brought: that many bytes at the front of the piece, none where the input has ended or the read has failed.
-#[derive(Drop)]
+#[derive(Clone, Copy)]
 pub struct Came {
     pub count: usize,
     pub has_failed: bool,
 }
 
 // How many bytes one write took, and whether to go on.
-#[derive(Drop)]
+#[derive(Clone, Copy)]
 struct Put {
     taken: usize,
     goes_on: bool,

@@ -1,3 +1,5 @@
+#![tactic(auto)]
+
 fn main() {
     log_io::crsf_log();
 }

@@ -8,7 +8,7 @@ use altitude::Decimetres;
 use refusals::Refusal;
 use writing::Written;
 
-#[derive(Drop)]
+#[derive(Clone, Copy)]
 pub struct BaroAltitude {
     // Above the starting point, packed: see `get_altitude_dm`.
     pub altitude_packed: u16,
@@ -16,7 +16,7 @@ pub struct BaroAltitude {
     pub vertical_speed_packed: i8,
 }
 
-#[derive(Drop)]
+#[derive(Clone, Copy)]
 pub enum BaroAltitudeRead {
     Record(BaroAltitude),
     Refused(Refusal),

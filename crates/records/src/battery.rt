@@ -8,7 +8,7 @@ ghost use Rattle.records.specs.Battery.{short_layout, battery_values, battery_de
 use refusals::Refusal;
 use writing::Written;
 
-#[derive(Drop)]
+#[derive(Clone, Copy)]
 pub struct Battery {
     // 0.1 V and 0.1 A.
     pub voltage: i16,
@@ -21,7 +21,7 @@ pub struct Battery {
     pub id: u8,
 }
 
-#[derive(Drop)]
+#[derive(Clone, Copy)]
 pub enum BatteryRead {
     Record(Battery),
     Refused(Refusal),

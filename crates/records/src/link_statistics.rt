@@ -8,7 +8,7 @@ ghost use Rattle.records.specs.LinkStatistics.{link_statistics_layout, link_stat
 use refusals::Refusal;
 use writing::Written;
 
-#[derive(Drop)]
+#[derive(Clone, Copy)]
 pub struct LinkStatistics {
     // dBm times -1.
     pub uplink_rssi_1: u8,
@@ -27,7 +27,7 @@ pub struct LinkStatistics {
     pub downlink_snr: i8,
 }
 
-#[derive(Drop)]
+#[derive(Clone, Copy)]
 pub enum LinkStatisticsRead {
     Record(LinkStatistics),
     Refused(Refusal),

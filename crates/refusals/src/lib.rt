@@ -1,8 +1,10 @@
 // The refusals, with what each carries, and each as numbers. A new one is a variant here, an arm of `row_of` and a line of specs/Row.
+#![tactic(auto)]
+
 ghost use Rattle.std.specs.Prelude.{◌≡◌};
 ghost use Rattle.refusals.specs.Row.{row_of, struct_of};
 
-#[derive(Drop)]
+#[derive(Clone, Copy)]
 pub enum Refusal {
     // The byte that is no address.
     InvalidSync(u8),
@@ -29,7 +31,7 @@ pub enum Refusal {
 }
 
 // A refusal as numbers: its own, and what it carries; 0 where it carries no more.
-#[derive(Drop)]
+#[derive(Clone, Copy)]
 pub struct Row {
     pub number: u8,
     pub first: usize,

@@ -5,14 +5,14 @@ use base::{byte_at, wide};
 use refusals::{Refusal, row_of};
 
 // Where a part stands.
-#[derive(Drop)]
+#[derive(Clone, Copy)]
 pub struct Part {
     pub at: usize,
     pub len: usize,
 }
 
 // What an answer is to be: a refusal's number, or 0 for a frame or a record, or 255 where more is asked for.
-#[derive(Drop)]
+#[derive(Clone, Copy)]
 pub struct Expected {
     pub number: u8,
     pub taken: u8,
@@ -22,7 +22,7 @@ pub struct Expected {
     pub second: u8,
 }
 
-#[derive(Drop)]
+#[derive(Clone, Copy)]
 pub struct Case {
     pub kind: u8,
     pub expected: Expected,

@@ -1,5 +1,7 @@
 // Replays recorded answers of the Rust original: standard input is a sample that oracle/record wrote, and each answer in it is compared with this
 // port's. Writes how many agree and how many differ. What stands in the sample is said in oracle/driver/src/record.rs.
+#![tactic(auto)]
+
 mod case;
 mod fields;
 mod framing;

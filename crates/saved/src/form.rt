@@ -16,14 +16,14 @@ use writing::Written;
 const MARK: u8 = 64;
 
 // How many bytes are held now, or a refusal: what a restore says.
-#[derive(Drop)]
+#[derive(Clone, Copy)]
 pub enum Restored {
     Held(usize),
     Refused(Refusal),
 }
 
 // The position of a form, and how many bytes stand before its older form: all of them where the position is malformed.
-#[derive(Drop)]
+#[derive(Clone, Copy)]
 struct Head {
     position: u64,
     size: usize,

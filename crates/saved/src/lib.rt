@@ -1,4 +1,6 @@
 // The saved form of a parser: what it holds and where it stands, written so that a later run goes on where this one was.
+#![tactic(auto)]
+
 pub mod form;
 mod held;
 pub mod lent;
@@ -13,7 +15,7 @@ use parser::CrsfParser;
 use writing::Written;
 
 // The parser after a restore, and what the restore says.
-#[derive(Drop)]
+#[derive(Clone, Copy)]
 pub struct Resumed {
     pub parser: CrsfParser,
     pub restored: Restored,

@@ -1,4 +1,6 @@
 // One whole valid frame, as a test.
+#![tactic(auto)]
+
 ghost use Rattle.std.specs.Prelude.{◌≡◌};
 ghost use Rattle.valid.specs.Valid.{Decides, is_right};
 ghost use Rattle.reading.specs.Frame.{Valid};

@@ -1,4 +1,6 @@
 // Runs published vectors and worked cases, and writes what the library gives. The stored output was made from what was published, and from the rules.
+#![tactic(auto)]
+
 mod battery_edges;
 mod burst_edges;
 mod check_byte;

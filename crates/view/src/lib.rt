@@ -1,4 +1,6 @@
 // Parts of lent bytes: the frame that a call answered with, and a raw view of any bytes.
+#![tactic(auto)]
+
 ghost use Rattle.std.specs.Prelude.{◌≡◌};
 ghost use Rattle.stream.specs.Step.{bytes_at};
 ghost use Rattle.view.specs.View.{frame_of, raw_row, raw_of, payload_of};
@@ -28,7 +30,7 @@ pub fn frame<'a>(reply: Reply, piece: &'a [u8], places: &'a [u8]) -> &'a [u8]
 }
 
 // What any four bytes or more show as a frame. Nothing else is checked.
-#[derive(Drop)]
+#[derive(Clone, Copy)]
 pub enum RawView {
     View { address: u8, kind: u8, check: u8 },
     Refused(Refusal),

@@ -1,4 +1,6 @@
 // The entry of the program where.
+#![tactic(auto)]
+
 ghost use Rattle.std.specs.Prelude.{◌≤◌};
 
 // Answers its status, as crsf_list does.

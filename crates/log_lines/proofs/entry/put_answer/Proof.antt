@@ -1,7 +1,7 @@
 -- `log_lines::entry::put_answer` meets its contract. Assumes nothing.
 use native.Mathlib.Omega.{arith}
 use Rattle.lines.proofs.Puts.{within_nothing}
-use Rattle.log.specs.Call.{given}
+use Rattle.kit_log.specs.Call.{given}
 use Rattle.log_reader.specs.Reader.{said_by}
 use Rattle.log_lines.specs.Text.{longest_entry, entry_lines}
 use Rattle.log_lines.proofs.Laws.{one_line}
