@@ -6,17 +6,18 @@
 use Prim.Native.Nat.{ℕ}
 use mathlib.Core.List.{List, [], ◌∷◌}
 use seplogic.Ra.Ura.{Ura}
-use seplogic.Ra.TreeShare.{full_share}
+use base.Fraction.{full_share}
 use mir.Syntax.{Lifetime}
 use mir.Val.{Val, vptr}
 use base.Stored.{Gv}
-use base.Fml.{GName, Lft, Share, fsep, fat, flft, fobs, fauth, fres, fbor, fobor, flent, fshr_bor}
+use base.Fml.{GName, Lft, Share, fsep, fat, flft, fobs, fauth, fres, fbor, fobor, flent}
 use types.Logic.{Logic}
 use types.Kit.{Item, Goal, Seq, Step, step, Soaks, ‵, ◌⊛◌, some, later, ◌$◌, move, drop, use1, use3, split, pick, fsplit, fjoin, fpick, fpack, await}
 use types.SemTy.{Body}
 use types.Tokens.{lft_new, lft_end}
 use denote.Laws.{Is, shows}
-use denote.Memory.{mem, cell_at, part_at, part_of}
+use denote.Memory.{mem, cell_at, part_at, part_of, hidden_shr}
+use denote.Opens.{Shut}
 use denote.Ref.{MutBor, MutRef}
 use denote.Lend.{lends_ref, ref_back}
 use denote.Steps.{opens, closes, looks, shuts, peeks}
@@ -49,13 +50,13 @@ module _ {M : Type 1} {𝓤 : Ura M} {𝓛 : Logic 𝓤} {K : Type 0} {Γ : List
 
   -- ---- behind a `&`
   pub looks_plain : K → Soaks G → (S : PlainStruct) {κ : Lft} {q : Share} (h : S.type.D) (b o : ℕ)
-      → ((q' : Share) → Stands S h → Seq K 𝓛 (‵ (cell_at q' (row_of S).mir (val_of S h ∷ []) b o) ∷ ‵ (fobor κ q (part_at (row_of S) q' h b o)) ∷ ‵ (fshr_bor κ (λ s. part_at (row_of S) s h b o)) ∷ Γ) G)
-      → Seq K 𝓛 (‵ (fshr_bor κ (λ s. part_at (row_of S) s h b o)) ∷ ‵ (flft κ q) ∷ Γ) G
+      → ((q' : Share) → Stands S h → Seq K 𝓛 (‵ (cell_at q' (row_of S).mir (val_of S h ∷ []) b o) ∷ Shut 𝓛 κ q (part_at (row_of S) q' h b o) ∷ ‵ (hidden_shr (row_of S) κ h b o) ∷ Γ) G)
+      → Seq K 𝓛 (‵ (hidden_shr (row_of S) κ h b o) ∷ ‵ (flft κ q) ∷ Γ) G
   looks_plain t z S h b o k =
-      looks t z (row_of S) (Is (row_of S)) (shows 𝓛 (row_of S)) (λ d. val_of S d ∷ []) (LL.tells S.type S.laws) (LL.copy S.type S.copy 𝓛) h b o (λ q' vs. spells t S q' h vs b o (k q'))
+      looks t z (row_of S) (LL.copied S.type S.copy 𝓛).opens h b o (λ q' vs. spells t S q' h vs b o (k q'))
 
   pub shuts_plain : K → Soaks G → (S : PlainStruct) {κ : Lft} {q : Share} (q' : Share) (h : S.type.D) (b o : ℕ) → Stands S h
-      → Step K 𝓛 (‵ (flft κ q) ∷ Γ) G (‵ (cell_at q' (row_of S).mir (val_of S h ∷ []) b o) ∷ ‵ (fobor κ q (part_at (row_of S) q' h b o)) ∷ Γ) G
+      → Step K 𝓛 (‵ (flft κ q) ∷ Γ) G (‵ (cell_at q' (row_of S).mir (val_of S h ∷ []) b o) ∷ Shut 𝓛 κ q (part_at (row_of S) q' h b o) ∷ Γ) G
   shuts_plain t z S q' h b o is = step (λ s. owns_plain t S h (val_of S h) is $ move t (1 ∷ 0 ∷ []) $ shuts t z (row_of S) q' h (val_of S h ∷ []) b o $ s)
 
   -- ---- a local's cell is what lies in memory, and the other way round

@@ -5,7 +5,7 @@
 -- Assumes `Logic`, but for `proved`, which holds in every model.
 use mathlib.Core.List.{List, [], ◌∷◌}
 use seplogic.Ra.Ura.{Ura}
-use mir.Syntax.{Name, Fn}
+use mir.Syntax.{Callee, Fn}
 use mir.Val.{Val}
 use base.Logic.{ent, id⊢}
 use prog.Model.{Model}
@@ -34,10 +34,10 @@ module _ {M : Type 1} {𝓤 : Ura M} {𝓛 : Logic 𝓤} {K : Type 0} {Γ : List
   -- a call has returned v. φ is the fact that the callee's `ensures` states of its result and last values
   pub returned : K → Soaks G → (T : Ended) (c : Clauses 𝓤 T) (y : (triple_of 𝓛 T.signature (closing 𝓛 T c)).Ghost) (v : Val) (φ : (Result T y.0.0).Denot → Lasts T y.0.0 y.0.3 → Type 0)
       → ((r : (Result T y.0.0).Denot) (ws : Lasts T y.0.0 y.0.3) → ent 𝓤 ((c y.0.0 y.0.3).ensures y.1 r (at_exit T y.0.0 y.0.3 ws)) (fact 𝓤 (φ r ws)))
-      → ((r : (Result T y.0.0).Denot) (ws : Lasts T y.0.0 y.0.3) → Is (Result T y.0.0) r (v ∷ []) → φ r ws → Seq K 𝓛 (‵ ((Result T y.0.0).own r (v ∷ [])) ∷ ‵ (lasts T y.0.0 y.0.3 ws) ∷ raw (alive 𝓛 T.signature y.0.0 y.0.1) ∷ Γ) G)
+      → ((r : (Result T y.0.0).Denot) (ws : Lasts T y.0.0 y.0.3) → Is (Result T y.0.0) r (v ∷ []) → φ r ws → Seq K 𝓛 (‵ ((Result T y.0.0).own_val r (v ∷ [])) ∷ ‵ (lasts T y.0.0 y.0.3 ws) ∷ raw (alive 𝓛 T.signature y.0.0 y.0.1) ∷ Γ) G)
       → Seq K 𝓛 (raw ((triple_of 𝓛 T.signature (closing 𝓛 T c)).post y v) ∷ Γ) G
   returned t z T c y v φ states k =
-      use1 𝓛 (later (some (λ (r : (Result T y.0.0).Denot). (raw (alive 𝓛 T.signature y.0.0 y.0.1) ⊛ ‵ ((Result T y.0.0).own r (v ∷ []))) ⊛ raw (ensured 𝓛 T c y.0.0 y.0.3 y.1 r))))
+      use1 𝓛 (later (some (λ (r : (Result T y.0.0).Denot). (raw (alive 𝓛 T.signature y.0.0 y.0.1) ⊛ ‵ ((Result T y.0.0).own_val r (v ∷ []))) ⊛ raw (ensured 𝓛 T c y.0.0 y.0.3 y.1 r))))
       (id⊢ 𝓤 _) $ await t z $ pick t (λ r. split t $ move t (1 ∷ []) $
       use1 𝓛 (some (λ (ws : Lasts T y.0.0 y.0.3). ‵ (lasts T y.0.0 y.0.3 ws) ⊛ raw ((c y.0.0 y.0.3).ensures y.1 r (at_exit T y.0.0 y.0.3 ws)))) (id⊢ 𝓤 _) $ pick t (λ ws. split t $ move t (1 ∷ []) $
       use1 𝓛 (raw (fact 𝓤 (φ r ws))) (states r ws) $ heard t (φ r ws) (λ e.
@@ -45,7 +45,7 @@ module _ {M : Type 1} {𝓤 : Ura M} {𝓛 : Logic 𝓤} {K : Type 0} {Γ : List
       move t (1 ∷ []) $ split t $ move t (1 ∷ 2 ∷ []) $ peeks t (Result T y.0.0) (Is (Result T y.0.0)) (shows 𝓛 (Result T y.0.0)) r (v ∷ []) (λ is. k r ws is e))))
 
 -- ---- the end of a proof by hand
-module _ {M : Type 1} {𝓤 : Ura M} (𝓛 : Logic 𝓤) (𝓜 : Model 𝓤 𝓛.H) (𝓡 : Running 𝓤 𝓛.H 𝓜) (T : Ended) (hs : Stays T.signature.params T.kept) (c : Clauses 𝓤 T) (γ : Env) (k : Name) (e : Fn) where
+module _ {M : Type 1} {𝓤 : Ura M} (𝓛 : Logic 𝓤) (𝓜 : Model 𝓤 𝓛.H) (𝓡 : Running 𝓤 𝓛.H 𝓜) (T : Ended) (hs : Stays T.signature.params T.kept) (c : Clauses 𝓤 T) (γ : Env) (k : Callee) (e : Fn) where
   open 𝓛 use {H}
 
   pub proved : Closed 𝓤 H (tables 𝓤 H 𝓜 𝓡 γ).C (tables 𝓤 H 𝓜 𝓡 γ).Λ k e → AllGo 𝓛 T.signature.lifetimes T.signature.params T.kept hs

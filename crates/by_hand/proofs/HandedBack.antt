@@ -13,8 +13,8 @@ use mathlib.Core.List.{[], ◌∷◌, List}
 use lib.Dec.{T as Holds}
 use lib.ListN.{length}
 use seplogic.Ra.Ura.{Ura}
-use seplogic.Ra.TreeShare.{full_share}
-use mir.Syntax.{Name, Fn, Ty, named, erased, mut, imm, w8, ty_int, ty_ref, local, value_local, memory_slot, place, copy, rv_opd, addr_of, aggregate, assign, call, seq, return}
+use base.Fraction.{full_share}
+use mir.Syntax.{Callee, Fn, Ty, named, erased, mut, imm, w8, ty_int, ty_ref, local, value_local, memory_slot, place, copy, rv_opd, addr_of, aggregate, assign, call, seq, return}
 use mir.Val.{Val, WT, has_ty, vptr, vstruct, vcons, vnil}
 use base.Logic.{SProp, ent, sep, emp, via, fst∗, id⊢}
 use base.Fml.{GName, Lft, Share, Fml, ftrue, fat, flft}
@@ -31,6 +31,7 @@ use denote.RattleType.{owns}
 use denote.Laws.{Is}
 use denote.Memory.{pointee}
 use denote.Builtin.{u8}
+use denote.Plain.{uint_row_laws}
 use denote.Ref.{MutRef}
 use denote.Slice.{slice_ty, shr_slice_vals, ShrSlice, Room, shr_slice_Tells, shr_slice_copy}
 use denote.Signature.{plain}
@@ -51,10 +52,12 @@ use Rattle.by_hand.proofs.Calls.{returned, proved}
 use Rattle.by_hand.proofs.Forms.{Slice, slice_at, Pair, pair_mir, lent_ended, lent_clauses, value_ended, value_clauses, Lent}
 
 module _ (S P : PlainStruct) (R : Plain) (two : Pair S P R) where
-  abbrev pub body : Name → Fn
+  abbrev pub body : Callee → Fn
   body f = record {
     lifetimes = 1;
     outlives = [];
+    ty_params = [];
+    givens = 0;
     params = 2;
     locals = local (pair_mir S P R two) value_local ∷ local (mir_of P) value_local ∷ local (slice_ty (ty_ref (named 0) imm (ty_int w8))) value_local
         ∷ local (mir_of P) memory_slot ∷ local (result.mir_of R) value_local ∷ local (ty_ref erased mut (pointee (row_of P).written)) value_local ∷ local (mir_of P) value_local ∷ [];
@@ -97,7 +100,7 @@ module _ (S P : PlainStruct) (R : Plain) (two : Pair S P R) (φ : P.type.D → L
     -- the slice is had twice
     twice : ent 𝓤 (sem 𝓛 Owned) (sep 𝓤 (sem 𝓛 Owned) (sem 𝓛 Input))
     twice =
-        qed 𝓛 (‵ Owned ∷ []) ∵ fsplit ! $ move ! (1 ∷ []) $ fsplit ! $ use1 𝓛 (‵ Input ⊛ ‵ Input) ((shr_slice_copy 𝓛 (named 0) κ u8).twice s (slice_at s ∷ [])) $ split ! $
+        qed 𝓛 (‵ Owned ∷ []) ∵ fsplit ! $ move ! (1 ∷ []) $ fsplit ! $ use1 𝓛 (‵ Input ⊛ ‵ Input) ((shr_slice_copy 𝓛 (named 0) κ u8 (uint_row_laws w8)).twice s (slice_at s ∷ [])) $ split ! $
         move ! (0 ∷ 2 ∷ []) $ fjoin ! $ move ! (2 ∷ 0 ∷ []) $ fjoin ! $ frame ! $ done !
 
     abbrev Post : Val → SProp 𝓤
@@ -123,7 +126,7 @@ module _ (S P : PlainStruct) (R : Plain) (two : Pair S P R) (φ : P.type.D → L
     pair_typed : (p : P.type.D) (r : R.row.Denot) → Stands P p → result.Stands R r → Holds (has_ty (pair_mir S P R two) (pair_val S P R two p r)) × WT (pair_val S P R two p r)
     pair_typed p r st is = subst (λ (σ : Ty). Holds (has_ty σ (pair_val S P R two p r)) × WT (pair_val S P R two p r)) two.mir_is (typed S 𝓛 (two.both p r) _ (pair_is S P R two p r st is))
 
-    module _ (C : Calls 𝓤 H) (Λ : Loops 𝓤 H) (fm : FmC 𝓤 H 𝓛.laws C) (f : Name) (known : Triple 𝓤 (C f) (Lent P R ψ 𝓤 𝓛)) where
+    module _ (C : Calls 𝓤 H) (Λ : Loops 𝓤 H) (fm : FmC 𝓤 H 𝓛.laws C) (f : Callee) (known : Triple 𝓤 (C f) (Lent P R ψ 𝓤 𝓛)) where
       walk : Room u8 (length s.now) → Stands P h → ent 𝓤 (on_entry 𝓛 (value_ended S P).signature (κ, tt) (q, tt) x at) (WpFn 𝓤 H C Λ (body S P R two f) (val_of P h ∷ slice_at s ∷ []) Post)
       walk room st =
           qed 𝓛 ((‵ (flft κ q) ⊛ ‵ ftrue) ∷ ‵ Owned ∷ []) ∵ enter ! C Λ (body S P R two f) (val_of P h ∷ slice_at s ∷ []) _ $
@@ -140,7 +143,7 @@ module _ (S P : PlainStruct) (R : Plain) (two : Pair S P R) (φ : P.type.D → L
           calls_at ! fm (Lent P R ψ 𝓤 𝓛) known (to_f ν γ l₃) (and_then ! (load ! (from ! (stop !)) (look ! 5 refl)) (and_then ! (load ! (from ! (stop !)) (look ! 10 refl)) (no_more !))) (λ v.
           returned ! tt (lent_ended P R) (lent_clauses P R ψ 𝓤) (to_f ν γ l₃) v (λ r ws. ψ h s.now ws.0 r) (λ r ws. id⊢ 𝓤 _) (λ r ws is e. drop ! $
           -- [the last values; the tokens; the lender's part; Owned; …]
-          fsplit ! $ move ! (2 ∷ []) $ use1 𝓛 (‵ (flft (ν ∷ []) full_share) ⊛ ‵ (flft κ q) ⊛ ‵ ftrue) (id⊢ 𝓤 _) $ split ! $ move ! (1 ∷ []) $ split ! $
+          fsplit ! $ fsplit ! $ move ! (1 ∷ []) $ drop ! $ move ! (2 ∷ []) $ use1 𝓛 (‵ (flft (ν ∷ []) full_share) ⊛ ‵ (flft κ q) ⊛ ‵ ftrue) (id⊢ 𝓤 _) $ split ! $ move ! (1 ∷ []) $ split ! $
           -- [the slice's token; true; the loan's token; the last struct; true; the lender's part; Owned; …]
           move ! (2 ∷ 5 ∷ 3 ∷ []) $ local_back ! tt P ws.0 l₃ (λ st'. move ! (2 ∷ []) $ drop ! $ move ! (2 ∷ []) $ drop ! $
           -- [_3; token; Owned; room for _6; …; _5; …; room for _4; …; what frees _3; _2; …; _1; …; room for _0; …]
@@ -151,7 +154,7 @@ module _ (S P : PlainStruct) (R : Plain) (two : Pair S P R) (φ : P.type.D → L
           move ! (14 ∷ 15 ∷ []) $ free1 ! $ move ! (12 ∷ 13 ∷ []) $ free1 ! $ move ! (10 ∷ 11 ∷ []) $ free1 ! $ move ! (0 ∷ 9 ∷ []) $ free1 ! $ move ! (6 ∷ 7 ∷ []) $ free1 ! $ move ! (4 ∷ 5 ∷ []) $ free1 ! $ move ! (2 ∷ 3 ∷ []) $ free1 ! $ free0 ! $
           keep ! (0 ∷ 1 ∷ []) $ by ! (exits (two.both ws.0 r) _ (link h s.now ws.0 r e) (pair_is S P R two ws.0 r st' (result.stands R r v is))))))))))))))
 
-  module _ {M : Type 1} {𝓤 : Ura M} (𝓛 : Logic 𝓤) (𝓜 : Model 𝓤 𝓛.H) (𝓡 : Running 𝓤 𝓛.H 𝓜) (η : Env) (k f : Name) where
+  module _ {M : Type 1} {𝓤 : Ura M} (𝓛 : Logic 𝓤) (𝓜 : Model 𝓤 𝓛.H) (𝓡 : Running 𝓤 𝓛.H 𝓜) (η : Env) (k f : Callee) where
     open 𝓛 use {H}
 
     pub handed_back : Closed 𝓤 H (tables 𝓤 H 𝓜 𝓡 η).C (tables 𝓤 H 𝓜 𝓡 η).Λ k (body S P R two f) → Triple 𝓤 ((tables 𝓤 H 𝓜 𝓡 η).C f) (Lent P R ψ 𝓤 𝓛)

@@ -3,8 +3,8 @@
 -- where g is the form by value (`Forms.antt`): φ is what g promises of its result, and ψ what f promises.
 --     body         f's MIR
 --     in_place     f meets its contract, if g meets its own and φ gives ψ
--- The borrow is opened, the struct is copied out of its cell whole, g is called on the copy and the slice, the new struct is stored over the old
--- one, and the borrow is closed at it. The slice is Copy: one copy goes to the callee, and one is kept for the exit.
+-- The borrow is opened, the struct is copied out of its cell whole, g is called on the copy and the slice, the new struct is copied into a local and
+-- from there stored over the old one, and the borrow is closed at it. The slice is Copy: one copy goes to the callee, and one is kept for the exit.
 -- Assumes nothing.
 use mathlib.Core.Path.{refl, ◌∙◌, subst}
 use Prim.Native.Nat.{ℕ}
@@ -12,8 +12,8 @@ use mathlib.Core.List.{[], ◌∷◌, List}
 use lib.Dec.{T as Holds}
 use lib.ListN.{length}
 use seplogic.Ra.Ura.{Ura}
-use seplogic.Ra.TreeShare.{full_share}
-use mir.Syntax.{Name, Fn, Ty, named, mut, imm, w8, ty_int, ty_ref, local, value_local, place, deref, field, copy, rv_opd, assign, call, seq, return}
+use base.Fraction.{full_share}
+use mir.Syntax.{Callee, Fn, Ty, named, mut, imm, w8, ty_int, ty_ref, local, value_local, place, deref, field, copy, rv_opd, assign, call, seq, return}
 use mir.Val.{Val, WT, has_ty, vptr}
 use base.Logic.{SProp, ent, sep, emp, via, fst∗, id⊢}
 use base.Fml.{GName, Lft, Share, Fml, ftrue, fat, flft, fobs, fbor}
@@ -31,6 +31,7 @@ use denote.RattleType.{owns}
 use denote.Laws.{Is}
 use denote.Memory.{mem, pointee}
 use denote.Builtin.{u8}
+use denote.Plain.{uint_row_laws}
 use denote.Ref.{MutBor, MutRef, mut_vals, mut_Tells}
 use denote.Slice.{slice_ty, shr_slice_vals, ShrSlice, Room, shr_slice_Tells, shr_slice_copy}
 use denote.Signature.{plain}
@@ -50,17 +51,21 @@ use Rattle.by_hand.proofs.Calls.{returned, proved}
 use Rattle.by_hand.proofs.Forms.{Slice, slice_at, Pair, pair_mir, lent_ended, lent_clauses, value_ended, value_clauses, ByValue}
 
 module _ (S P : PlainStruct) (R : Plain) (two : Pair S P R) where
-  abbrev pub body : Name → Fn
+  abbrev pub body : Callee → Fn
   body g = record {
     lifetimes = 2;
     outlives = [];
+    ty_params = [];
+    givens = 0;
     params = 2;
     locals = local (result.mir_of R) value_local ∷ local (ty_ref (named 0) mut (pointee (row_of P).written)) value_local
-        ∷ local (slice_ty (ty_ref (named 1) imm (ty_int w8))) value_local ∷ local (pair_mir S P R two) value_local ∷ local (mir_of P) value_local ∷ [];
+        ∷ local (slice_ty (ty_ref (named 1) imm (ty_int w8))) value_local ∷ local (pair_mir S P R two) value_local ∷ local (mir_of P) value_local
+        ∷ local (mir_of P) value_local ∷ [];
     body = seq (assign (place 4 []) (rv_opd (copy (place 1 (deref (mir_of P) ∷ [])))))
         (seq (call g (copy (place 4 []) ∷ copy (place 2 []) ∷ []) (place 3 []))
-        (seq (assign (place 1 (deref (mir_of P) ∷ [])) (rv_opd (copy (place 3 (field 0 ∷ [])))))
-        (seq (assign (place 0 []) (rv_opd (copy (place 3 (field 1 ∷ []))))) return)));
+        (seq (assign (place 5 []) (rv_opd (copy (place 3 (field 0 ∷ [])))))
+        (seq (assign (place 1 (deref (mir_of P) ∷ [])) (rv_opd (copy (place 5 []))))
+        (seq (assign (place 0 []) (rv_opd (copy (place 3 (field 1 ∷ []))))) return))));
   }
 
 abbrev stayed : (P : PlainStruct) (R : Plain) → Stays (lent_ended P R).signature.params (lent_ended P R).kept
@@ -105,33 +110,34 @@ module _ (S P : PlainStruct) (R : Plain) (two : Pair S P R) (φ : P.type.D → L
     out_typed : (r : S.type.D) (v : Val) → Is (row_of S) r (v ∷ []) → Holds (has_ty (pair_mir S P R two) v) × WT v
     out_typed r v is = subst (λ (σ : Ty). Holds (has_ty σ v) × WT v) two.mir_is (typed S 𝓛 r v is)
 
-    module _ (C : Calls 𝓤 H) (Λ : Loops 𝓤 H) (fm : FmC 𝓤 H 𝓛.laws C) (g : Name) (known : Triple 𝓤 (C g) (ByValue S P φ 𝓤 𝓛)) where
+    module _ (C : Calls 𝓤 H) (Λ : Loops 𝓤 H) (fm : FmC 𝓤 H 𝓛.laws C) (g : Callee) (known : Triple 𝓤 (C g) (ByValue S P φ 𝓤 𝓛)) where
       walk : Room u8 (length s.now) → ent 𝓤 (on_entry 𝓛 (lent_ended P R).signature (κ, (κ', tt)) (q, (q', tt)) x at) (WpFn 𝓤 H C Λ (body S P R two g) (vptr b o ∷ slice_at s ∷ []) Post)
       walk room =
           qed 𝓛 ((‵ (flft κ q) ⊛ ‵ (flft κ' q') ⊛ ‵ ftrue) ∷ ‵ (owns (MutRef (named 0) κ (row_of P) ∷ ShrSlice (named 1) κ' u8 ∷ []) x at) ∷ []) ∵ enter ! C Λ (body S P R two g) (vptr b o ∷ slice_at s ∷ []) _ $
-          alloc1 ! (λ l₀. alloc1 ! (λ l₁. alloc1 ! (λ l₂. alloc1 ! (λ l₃. alloc1 ! (λ l₄. alloc0 ! $ params1 ! $ pass1 ! (init ! 6 refl (tt, tt)) $ pass1 ! (init ! 4 refl (tt, (tt, (record { fits = room.0 }, tt)))) $ pass0 ! $
+          alloc1 ! (λ l₀. alloc1 ! (λ l₁. alloc1 ! (λ l₂. alloc1 ! (λ l₃. alloc1 ! (λ l₄. alloc1 ! (λ l₅. alloc0 ! $ params1 ! $ pass1 ! (init ! 8 refl (tt, tt)) $ pass1 ! (init ! 6 refl (tt, (tt, (record { fits = room.0 }, tt)))) $ pass0 ! $
           -- the slice is had twice, and the borrow is opened
-          move ! (11 ∷ []) $ fsplit ! $ move ! (1 ∷ []) $ fsplit ! $ use1 𝓛 (‵ Input ⊛ ‵ Input) ((shr_slice_copy 𝓛 (named 1) κ' u8).twice s (slice_at s ∷ [])) $ split ! $ move ! (3 ∷ []) $ fsplit3 ! $ drop ! $
-          -- [obs; the borrow; Input; Input; true; _4; …; _3; …; _2; …; _1; …; _0; …; the tokens]
-          move ! (15 ∷ []) $ split ! $ move ! (2 ∷ 3 ∷ 0 ∷ []) $ opens_plain ! tt P h b o (λ st.
-          -- [the struct's cell; the open borrow; obs; auth; the slice's token; Input; Input; true; room for _4; …; room for _3; …; _2; …; _1; …; room for _0; …]
-          assigns ! (of_opd ! (load ! (from ! (hop ! (look ! 14 refl) (stop !))) (look_raw ! 0 refl))) (from ! (stop !)) (init ! 8 refl (typed P 𝓛 h _ st)) $
+          move ! (13 ∷ []) $ fsplit ! $ move ! (1 ∷ []) $ fsplit ! $ use1 𝓛 (‵ Input ⊛ ‵ Input) ((shr_slice_copy 𝓛 (named 1) κ' u8 (uint_row_laws w8)).twice s (slice_at s ∷ [])) $ split ! $ move ! (3 ∷ []) $ fsplit3 ! $ drop ! $
+          -- [obs; the borrow; Input; Input; true; room for _5; …; room for _4; …; room for _3; …; _2; …; _1; …; _0; …; the tokens]
+          move ! (17 ∷ []) $ split ! $ move ! (2 ∷ 3 ∷ 0 ∷ []) $ opens_plain ! tt P h b o (λ st.
+          -- [the struct's cell; the open borrow; obs; auth; the slice's token; Input; Input; true; room for _5; …; room for _4; …; room for _3; …; _2; …; _1; …; room for _0; …]
+          assigns ! (of_opd ! (load ! (from ! (hop ! (look ! 16 refl) (stop !))) (look_raw ! 0 refl))) (from ! (stop !)) (init ! 10 refl (typed P 𝓛 h _ st)) $
           move ! (4 ∷ 5 ∷ []) $ use2 𝓛 (raw ((ByValue S P φ 𝓤 𝓛).pre to_g)) (asked st) $
-          -- [what g asks; the struct's cell; the open borrow; obs; auth; Input; true; _4; …; room for _3; …; _2; …; _1; …; room for _0; …]
-          calls_at ! fm (ByValue S P φ 𝓤 𝓛) known to_g (and_then ! (load ! (from ! (stop !)) (look ! 7 refl)) (and_then ! (load ! (from ! (stop !)) (look ! 11 refl)) (no_more !))) (λ v.
+          -- [what g asks; the struct's cell; the open borrow; obs; auth; Input; true; room for _5; …; _4; …; room for _3; …; _2; …; _1; …; room for _0; …]
+          calls_at ! fm (ByValue S P φ 𝓤 𝓛) known to_g (and_then ! (load ! (from ! (stop !)) (look ! 9 refl)) (and_then ! (load ! (from ! (stop !)) (look ! 13 refl)) (no_more !))) (λ v.
           returned ! tt (value_ended S P) (value_clauses S P φ 𝓤) to_g v (λ r ws. φ h s.now r) (λ r ws. id⊢ 𝓤 _) (λ r ws is e. drop ! $ drop ! $
-          -- [the slice's token; the struct's cell; the open borrow; obs; auth; Input; true; _4; …; room for _3; …; _2; …; _1; …; room for _0; …]
-          land ! (from ! (stop !)) (init ! 9 refl (out_typed r v is)) $ rewrite ! 9 (λ (u : Val). ‵ (fat full_share (pair_mir S P R two) l₃ 0 u)) (val_is S r v is ∙ two.val_is r) refl $
-          assigns ! (of_opd ! (load ! (from ! (fld ! refl (stop !))) (look_in ! 9 (sub ! 0 refl (whole !))))) (from ! (hop ! (look ! 13 refl) (stop !))) (store_raw ! 1 refl (typed P 𝓛 (two.first r) _ (two.first_stands r (stands S r v is)))) $
-          assigns ! (of_opd ! (load ! (from ! (fld ! refl (stop !))) (look_in ! 9 (sub ! 1 refl (whole !))))) (from ! (stop !)) (init ! 15 refl (R.typed 𝓛 (two.second r) _ (two.second_stands r (stands S r v is)))) $
+          -- [the slice's token; the struct's cell; the open borrow; obs; auth; Input; true; room for _5; …; _4; …; room for _3; …; _2; …; _1; …; room for _0; …]
+          land ! (from ! (stop !)) (init ! 11 refl (out_typed r v is)) $ rewrite ! 11 (λ (u : Val). ‵ (fat full_share (pair_mir S P R two) l₃ 0 u)) (val_is S r v is ∙ two.val_is r) refl $
+          assigns ! (of_opd ! (load ! (from ! (fld ! refl (stop !))) (look_in ! 11 (sub ! 0 refl (whole !))))) (from ! (stop !)) (init ! 7 refl (typed P 𝓛 (two.first r) _ (two.first_stands r (stands S r v is)))) $
+          assigns ! (of_opd ! (load ! (from ! (stop !)) (look ! 7 refl))) (from ! (hop ! (look ! 15 refl) (stop !))) (store_raw ! 1 refl (typed P 𝓛 (two.first r) _ (two.first_stands r (stands S r v is)))) $
+          assigns ! (of_opd ! (load ! (from ! (fld ! refl (stop !))) (look_in ! 11 (sub ! 1 refl (whole !))))) (from ! (stop !)) (init ! 17 refl (R.typed 𝓛 (two.second r) _ (two.second_stands r (stands S r v is)))) $
           -- the borrow is closed at the new struct
           move ! (1 ∷ 2 ∷ 3 ∷ 4 ∷ []) $ closes_plain ! tt P (two.first r) _ b o (two.first_stands r (stands S r v is)) $
-          -- [obs; the borrow; the struct's token; the slice's token; Input; true; _4; …; _3; …; _2; …; _1; …; _0; …]
-          returns ! (look ! 14 refl) $ forget ! 6 refl $ forget ! 8 refl $ forget ! 10 refl $ forget ! 12 refl $ forget ! 14 refl $
-          move ! (14 ∷ 15 ∷ []) $ free1 ! $ move ! (12 ∷ 13 ∷ []) $ free1 ! $ move ! (10 ∷ 11 ∷ []) $ free1 ! $ move ! (8 ∷ 9 ∷ []) $ free1 ! $ move ! (6 ∷ 7 ∷ []) $ free1 ! $ free0 ! $
-          keep ! (0 ∷ 1 ∷ 2 ∷ 3 ∷ 4 ∷ []) $ by ! (exits r e (two.second_stands r (stands S r v is)))))))))))
+          -- [obs; the borrow; the struct's token; the slice's token; Input; true; _5; …; _4; …; _3; …; _2; …; _1; …; _0; …]
+          returns ! (look ! 16 refl) $ forget ! 6 refl $ forget ! 8 refl $ forget ! 10 refl $ forget ! 12 refl $ forget ! 14 refl $ forget ! 16 refl $
+          move ! (16 ∷ 17 ∷ []) $ free1 ! $ move ! (14 ∷ 15 ∷ []) $ free1 ! $ move ! (12 ∷ 13 ∷ []) $ free1 ! $ move ! (10 ∷ 11 ∷ []) $ free1 ! $ move ! (8 ∷ 9 ∷ []) $ free1 ! $ move ! (6 ∷ 7 ∷ []) $ free1 ! $ free0 ! $
+          keep ! (0 ∷ 1 ∷ 2 ∷ 3 ∷ 4 ∷ []) $ by ! (exits r e (two.second_stands r (stands S r v is))))))))))))
 
-  module _ {M : Type 1} {𝓤 : Ura M} (𝓛 : Logic 𝓤) (𝓜 : Model 𝓤 𝓛.H) (𝓡 : Running 𝓤 𝓛.H 𝓜) (η : Env) (k g : Name) where
+  module _ {M : Type 1} {𝓤 : Ura M} (𝓛 : Logic 𝓤) (𝓜 : Model 𝓤 𝓛.H) (𝓡 : Running 𝓤 𝓛.H 𝓜) (η : Env) (k g : Callee) where
     open 𝓛 use {H}
 
     pub in_place : Closed 𝓤 H (tables 𝓤 H 𝓜 𝓡 η).C (tables 𝓤 H 𝓜 𝓡 η).Λ k (body S P R two g) → Triple 𝓤 ((tables 𝓤 H 𝓜 𝓡 η).C g) (ByValue S P φ 𝓤 𝓛)

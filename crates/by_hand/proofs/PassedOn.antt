@@ -12,22 +12,24 @@ use Prim.Native.Nat.{ℕ}
 use mathlib.Core.List.{[], ◌∷◌, List}
 use lib.ListN.{length}
 use seplogic.Ra.Ura.{Ura}
-use mir.Syntax.{Name, Fn, named, erased, mut, imm, w8, ty_int, ty_ref, local, value_local, place, deref, field, copy, rv_opd, addr_of, aggregate, assign, call, seq, return}
+use mir.Syntax.{Callee, Fn, named, erased, mut, imm, w8, ty_int, ty_ref, local, value_local, place, deref, field, copy, rv_opd, addr_of, aggregate, assign, call, seq, return}
 use mir.Val.{Val, vptr}
 use base.Logic.{SProp, ent, sep, emp, via, fst∗, id⊢}
-use base.Fml.{GName, Lft, Share, Fml, ftrue, flft, fres, fshr_bor}
+use base.Fml.{GName, Lft, Share, Fml, ftrue, flft, fbor}
 use prog.Model.{Model}
 use prog.Routine.{Env}
 use prog.Wp.{Calls, Loops, WpFn, Closed}
 use types.Logic.{Logic, sem}
 use contract.Monad.{fact}
 use contract.Running.{Running, tables}
-use types.Kit.{‵, raw, ◌⊛◌, ⋆, ◌$◌, ◌∵◌, !, qed, by, move, keep, drop, use2, split, join, fsplit, fsplit3, fjoin, fjoin3, feq_l, feq_i, suffices, frame, done}
+use types.Kit.{‵, raw, ◌⊛◌, ⋆, ◌$◌, ◌∵◌, !, qed, by, move, keep, drop, use2, split, join, fsplit, fjoin, feq_l, feq_i, suffices, frame, done}
 use types.Run.{look, look_raw, init, forget, stop, hop, fld, from, load, addr, and_then, no_more, of_opd, assigns, land, returns, enter, alloc1, alloc0, params1, pass1, pass0, free1, free0}
 use types.Part.{agg, whole, sub, look_in}
+use types.SemTy.{Arr, Body}
+use types.Hole.{Holey}
 use sound.WpLaws.{FmC}
 use denote.RattleType.{RattleType, owns}
-use denote.Memory.{lone, part_at, pointee}
+use denote.Memory.{lone, mem, pointee, hidden_shr}
 use denote.Builtin.{u8, RefOf, SliceRefMutOf}
 use denote.Ref.{Bor, MutBor, ShrRef, shr_vals, shr_Tells}
 use denote.Slice.{slice_ty, slice_val, mut_slice_vals, MutSlice, Room, finally, mut_slice_Tells}
@@ -46,10 +48,12 @@ use Rattle.by_hand.proofs.Borrows.{looks_plain, shuts_plain}
 use Rattle.by_hand.proofs.Calls.{returned, proved}
 
 module _ (P : PlainStruct) (R : RattleType) where
-  abbrev pub body : Name → Fn
+  abbrev pub body : Callee → Fn
   body g = record {
     lifetimes = 2;
     outlives = [];
+    ty_params = [];
+    givens = 0;
     params = 2;
     locals = local (lone R.mir) value_local ∷ local (ty_ref (named 0) imm (pointee (row_of P).written)) value_local
         ∷ local (slice_ty (ty_ref (named 1) mut (ty_int w8))) value_local ∷ local (mir_of P) value_local
@@ -92,7 +96,7 @@ module _ (P : PlainStruct) (R : RattleType) where
 
 module _ (P : PlainStruct) (R : RattleType) (T : Typed R) (φ : P.type.D → List ℕ → R.Denot → List ℕ → Type 0) where
   module _ {M : Type 1} {𝓤 : Ura M} (𝓛 : Logic 𝓤) (κ κ' : Lft) (q q' : Share)
-      (b o : ℕ) (γ : GName) (h : P.type.D) (b' o' : ℕ) (γ' : GName) (ys : List ℕ) where
+      (b o : ℕ) (h : P.type.D) (b' o' : ℕ) (γ' : GName) (ys : List ℕ) where
     -- the slice, and its machine value
     open 𝓛 use {H, A}
 
@@ -102,8 +106,8 @@ module _ (P : PlainStruct) (R : RattleType) (T : Typed R) (φ : P.type.D → Lis
     abbrev ov : Val
     ov = slice_val (b', o') (length ys)
 
-    abbrev x : Bor P.type.D × (Bor (List ℕ) × Unit {0})
-    x = (record { ref_ptr = (b, o); ghost_name = γ; now = h }, (out, tt))
+    abbrev x : Bor P.type.D × (MutBor (List ℕ) × Unit {0})
+    x = (record { ref_ptr = (b, o); now = h }, (out, tt))
 
     abbrev at : List Val × (List Val × Unit {0})
     at = (vptr b o ∷ [], (ov ∷ [], tt))
@@ -111,16 +115,20 @@ module _ (P : PlainStruct) (R : RattleType) (T : Typed R) (φ : P.type.D → Lis
     abbrev Out : Fml
     Out = (MutSlice (named 1) κ' u8).own_val out (ov ∷ [])
 
+    -- the borrow of the slice's elements
+    abbrev Elements : Fml
+    Elements = fbor κ' (Body (Arr (Holey (mem u8)) (length ys)) b' o' γ')
+
     abbrev Post : Val → SProp 𝓤
     Post = (walk_of 𝓛 (lent_ended P R) (stayed P R) (lent_clauses P R φ 𝓤)).post (((κ, (κ', tt)), (q, (q', tt)), tt, x, at), tt)
 
     exits : (r : R.Denot) (v : Val) (zs : List ℕ) → φ h ys r zs → length zs ≡ length ys
-        → ent 𝓤 (⋆ 𝓛 (‵ (flft κ q) ∷ raw (alive 𝓛 (value_ended P R).signature (κ', tt) (q', tt)) ∷ ‵ (fres γ ((row_of P).coded.code h))
-        ∷ ‵ (fshr_bor κ (λ s. part_at (row_of P) s h b o)) ∷ ‵ (finally u8 γ' zs) ∷ ‵ (R.own r (v ∷ [])) ∷ [])) (Post v)
+        → ent 𝓤 (⋆ 𝓛 (‵ (flft κ q) ∷ raw (alive 𝓛 (value_ended P R).signature (κ', tt) (q', tt))
+        ∷ ‵ (hidden_shr (row_of P) κ h b o) ∷ ‵ (finally u8 γ' zs) ∷ ‵ Elements ∷ ‵ (R.own_val r (v ∷ [])) ∷ [])) (Post v)
     exits r v zs e l =
-        qed 𝓛 (‵ (flft κ q) ∷ raw (alive 𝓛 (value_ended P R).signature (κ', tt) (q', tt)) ∷ ‵ (fres γ ((row_of P).coded.code h)) ∷ ‵ (fshr_bor κ (λ s. part_at (row_of P) s h b o)) ∷ ‵ (finally u8 γ' zs) ∷ ‵ (R.own r (v ∷ [])) ∷ []) ∵
+        qed 𝓛 (‵ (flft κ q) ∷ raw (alive 𝓛 (value_ended P R).signature (κ', tt) (q', tt)) ∷ ‵ (hidden_shr (row_of P) κ h b o) ∷ ‵ (finally u8 γ' zs) ∷ ‵ Elements ∷ ‵ (R.own_val r (v ∷ [])) ∷ []) ∵
         suffices ! _ (ends_at 𝓛 (lent_ended P R) (stayed P R) (lent_clauses P R φ 𝓤) (((κ, (κ', tt)), (q, (q', tt)), tt, x, at), tt) v r (tt, (zs, tt)) (tt, (l, tt))) $ says ! e $ join ! $ frame ! $
-        feq_i ! (List Val) (vptr b o ∷ []) (vptr b o ∷ []) refl $ fjoin3 ! $ nothing ! $ move ! (2 ∷ 0 ∷ []) $ fjoin ! $ move ! (1 ∷ 0 ∷ []) $ fjoin ! $ done !
+        feq_i ! (List Val) (vptr b o ∷ []) (vptr b o ∷ []) refl $ fjoin ! $ move ! (1 ∷ 2 ∷ []) $ fjoin ! $ nothing ! $ move ! (1 ∷ 0 ∷ []) $ fjoin ! $ move ! (1 ∷ 0 ∷ []) $ fjoin ! $ done !
 
     -- what g's triple binds outside, and that the caller has what it asks
     abbrev to_g : (ByValue P R φ 𝓤 𝓛).Ghost
@@ -129,33 +137,33 @@ module _ (P : PlainStruct) (R : RattleType) (T : Typed R) (φ : P.type.D → Lis
     asked : Stands P h → ent 𝓤 (sep 𝓤 (sep 𝓤 (A.lft κ' q') (sem 𝓛 ftrue)) (sem 𝓛 Out)) ((ByValue P R φ 𝓤 𝓛).pre to_g)
     asked g = qed 𝓛 ((‵ (flft κ' q') ⊛ ‵ ftrue) ∷ ‵ Out ∷ []) ∵ nothing ! $ move ! (2 ∷ 0 ∷ []) $ fjoin ! $ owns_plain ! P h _ g $ fjoin ! $ move ! (1 ∷ 0 ∷ []) $ join ! $ frame ! $ done !
 
-    module _ (C : Calls 𝓤 H) (Λ : Loops 𝓤 H) (fm : FmC 𝓤 H 𝓛.laws C) (g : Name) (known : Triple 𝓤 (C g) (ByValue P R φ 𝓤 𝓛)) where
+    module _ (C : Calls 𝓤 H) (Λ : Loops 𝓤 H) (fm : FmC 𝓤 H 𝓛.laws C) (g : Callee) (known : Triple 𝓤 (C g) (ByValue P R φ 𝓤 𝓛)) where
       walk : Room u8 (length ys) → ent 𝓤 (on_entry 𝓛 (lent_ended P R).signature (κ, (κ', tt)) (q, (q', tt)) x at) (WpFn 𝓤 H C Λ (body P R g) (vptr b o ∷ ov ∷ []) Post)
       walk room =
           qed 𝓛 ((‵ (flft κ q) ⊛ ‵ (flft κ' q') ⊛ ‵ ftrue) ∷ ‵ (owns (ShrRef (named 0) κ (row_of P) ∷ MutSlice (named 1) κ' u8 ∷ []) x at) ∷ []) ∵ enter ! C Λ (body P R g) (vptr b o ∷ ov ∷ []) _ $
           alloc1 ! (λ l₀. alloc1 ! (λ l₁. alloc1 ! (λ l₂. alloc1 ! (λ l₃. alloc1 ! (λ l₄. alloc1 ! (λ l₅. alloc0 ! $ params1 ! $
           pass1 ! (init ! 8 refl (tt, tt)) $ pass1 ! (init ! 6 refl (tt, (tt, (record { fits = room.0 }, tt)))) $ pass0 ! $
           -- the struct is copied out
-          move ! (13 ∷ []) $ fsplit ! $ fsplit3 ! $ drop ! $ move ! (15 ∷ []) $ split ! $ move ! (3 ∷ 0 ∷ []) $ looks_plain ! tt P h b o (λ q'' st.
-          -- [a share of the struct's cell; what shuts it; the fractured borrow; the slice's token; res; what out owns; _5; …; _4; …; _3; …; _2; …; _1; …; room for _0; …]
-          assigns ! (of_opd ! (load ! (from ! (hop ! (look ! 14 refl) (stop !))) (look_raw ! 0 refl))) (from ! (stop !)) (init ! 10 refl (typed P 𝓛 h _ st)) $ shuts_plain ! tt P q'' h b o st $
-          -- [the struct's token; the fractured borrow; the slice's token; res; what out owns; _5; …; _4; …; _3; …; _2; …; _1; …; room for _0; …]
-          assigns ! (addr ! (from ! (fld ! refl (hop ! (look_in ! 11 (sub ! 0 refl (whole !))) (stop !))))) (from ! (stop !)) (init ! 7 refl (tt, tt)) $
-          assigns ! (agg ! (and_then ! (load ! (from ! (stop !)) (look ! 7 refl)) (and_then ! (load ! (from ! (fld ! refl (stop !))) (look_in ! 11 (sub ! 1 refl (whole !)))) (no_more !)))) (from ! (stop !))
-          (init ! 5 refl (tt, (tt, (record { fits = room.0 }, tt)))) $
+          move ! (13 ∷ []) $ fsplit ! $ fsplit ! $ drop ! $ move ! (14 ∷ []) $ split ! $ move ! (2 ∷ 0 ∷ []) $ looks_plain ! tt P h b o (λ q'' st.
+          -- [a share of the struct's cell; what shuts it; what the `&` holds; the slice's token; what out owns; _5; …; _4; …; _3; …; _2; …; _1; …; room for _0; …]
+          assigns ! (of_opd ! (load ! (from ! (hop ! (look ! 13 refl) (stop !))) (look_raw ! 0 refl))) (from ! (stop !)) (init ! 9 refl (typed P 𝓛 h _ st)) $ shuts_plain ! tt P q'' h b o st $
+          -- [the struct's token; what the `&` holds; the slice's token; what out owns; _5; …; _4; …; _3; …; _2; …; _1; …; room for _0; …]
+          assigns ! (addr ! (from ! (fld ! refl (hop ! (look_in ! 10 (sub ! 0 refl (whole !))) (stop !))))) (from ! (stop !)) (init ! 6 refl (tt, tt)) $
+          assigns ! (agg ! (and_then ! (load ! (from ! (stop !)) (look ! 6 refl)) (and_then ! (load ! (from ! (fld ! refl (stop !))) (look_in ! 10 (sub ! 1 refl (whole !)))) (no_more !)))) (from ! (stop !))
+          (init ! 4 refl (tt, (tt, (record { fits = room.0 }, tt)))) $
           -- the slice is passed on
-          move ! (4 ∷ []) $ fsplit ! $ move ! (4 ∷ 0 ∷ []) $ use2 𝓛 (raw ((ByValue P R φ 𝓤 𝓛).pre to_g)) (asked st) $
-          -- [what g asks; true; the struct's token; the fractured borrow; res; _5; …; _4; …; _3; …; _2; …; _1; …; room for _0; …]
-          calls_at ! fm (ByValue P R φ 𝓤 𝓛) known to_g (and_then ! (load ! (from ! (stop !)) (look ! 9 refl)) (and_then ! (load ! (from ! (stop !)) (look ! 5 refl)) (no_more !))) (λ v.
+          move ! (3 ∷ []) $ fsplit ! $ move ! (4 ∷ 0 ∷ []) $ use2 𝓛 (raw ((ByValue P R φ 𝓤 𝓛).pre to_g)) (asked st) $
+          -- [what g asks; true; the struct's token; what the `&` holds; _5; …; _4; …; _3; …; _2; …; _1; …; room for _0; …]
+          calls_at ! fm (ByValue P R φ 𝓤 𝓛) known to_g (and_then ! (load ! (from ! (stop !)) (look ! 8 refl)) (and_then ! (load ! (from ! (stop !)) (look ! 4 refl)) (no_more !))) (λ v.
           returned ! tt (value_ended P R) (value_clauses P R φ 𝓤) to_g v (λ r ws. φ h ys r ws.1.0) (λ r ws. id⊢ 𝓤 _) (λ r ws is e.
-          -- [the result; the last values; the slice's token; true; the struct's token; the fractured borrow; res; _5; …; _4; …; _3; …; _2; …; _1; …; room for _0; …]
-          land ! (from ! (stop !)) (init ! 17 refl (T.typed 𝓛 r v is)) $ move ! (1 ∷ []) $ fsplit ! $ move ! (1 ∷ []) $ fsplit ! $ fsplit ! $ move ! (1 ∷ []) $ feq_l ! (λ l.
-          -- [the last list; true; what is said of the copy; the result; the slice's token; true; the struct's token; the fractured borrow; res; _5; …; _4; …; _3; …; _2; …; _1; …; _0; …]
+          -- [the result; the last values; the slice's token; true; the struct's token; what the `&` holds; _5; …; _4; …; _3; …; _2; …; _1; …; room for _0; …]
+          land ! (from ! (stop !)) (init ! 16 refl (T.typed 𝓛 r v is)) $ move ! (1 ∷ []) $ fsplit ! $ move ! (1 ∷ []) $ fsplit ! $ fsplit ! $ fsplit ! $ move ! (1 ∷ []) $ feq_l ! (λ l.
+          -- [the last list; the slice's borrow; true; what is said of the copy; the result; the slice's token; true; the struct's token; what the `&` holds; _5; …; _4; …; _3; …; _2; …; _1; …; _0; …]
           returns ! (look ! 19 refl) $ forget ! 9 refl $ forget ! 11 refl $ forget ! 13 refl $ forget ! 15 refl $ forget ! 17 refl $ forget ! 19 refl $
           move ! (19 ∷ 20 ∷ []) $ free1 ! $ move ! (17 ∷ 18 ∷ []) $ free1 ! $ move ! (15 ∷ 16 ∷ []) $ free1 ! $ move ! (13 ∷ 14 ∷ []) $ free1 ! $ move ! (11 ∷ 12 ∷ []) $ free1 ! $ move ! (9 ∷ 10 ∷ []) $ free1 ! $ free0 ! $
-          keep ! (6 ∷ 4 ∷ 8 ∷ 7 ∷ 0 ∷ 3 ∷ []) $ by ! (exits r v ws.1.0 e l)))))))))))
+          keep ! (7 ∷ 5 ∷ 8 ∷ 0 ∷ 1 ∷ 4 ∷ []) $ by ! (exits r v ws.1.0 e l)))))))))))
 
-  module _ {M : Type 1} {𝓤 : Ura M} (𝓛 : Logic 𝓤) (𝓜 : Model 𝓤 𝓛.H) (𝓡 : Running 𝓤 𝓛.H 𝓜) (η : Env) (k g : Name) where
+  module _ {M : Type 1} {𝓤 : Ura M} (𝓛 : Logic 𝓤) (𝓜 : Model 𝓤 𝓛.H) (𝓡 : Running 𝓤 𝓛.H 𝓜) (η : Env) (k g : Callee) where
     open 𝓛 use {H}
 
     pub passed_on : Closed 𝓤 H (tables 𝓤 H 𝓜 𝓡 η).C (tables 𝓤 H 𝓜 𝓡 η).Λ k (body P R g) → Triple 𝓤 ((tables 𝓤 H 𝓜 𝓡 η).C g) (ByValue P R φ 𝓤 𝓛)
@@ -165,5 +173,5 @@ module _ (P : PlainStruct) (R : RattleType) (T : Typed R) (φ : P.type.D → Lis
         (Goes-none_ref 𝓛 2 (0 ∷ []) tt (plain (λ _. row_of P)) yes, (Goes-gave_slice 𝓛 2 1 tt (plain (λ _. u8)), tt)) (λ fm.
         walked 𝓛 (lent_ended P R) (stayed P R) (lent_clauses P R φ 𝓤) (WpFn 𝓤 H (tables 𝓤 H 𝓜 𝓡 η).C (tables 𝓤 H 𝓜 𝓡 η).Λ (body P R g))
         (λ κs. (shr_vals, (mut_slice_vals, tt))) (λ κs. (shr_Tells (named 0) κs.0 (row_of P), (mut_slice_Tells (named 1) κs.1.0 u8, tt)))
-        (λ κs qs bounds a _ are. via 𝓤 _ (fst∗ 𝓤 _ (emp 𝓤)) (walk 𝓛 κs.0 κs.1.0 qs.0 qs.1.0 a.0.ref_ptr.0 a.0.ref_ptr.1 a.0.ghost_name a.0.now
+        (λ κs qs bounds a _ are. via 𝓤 _ (fst∗ 𝓤 _ (emp 𝓤)) (walk 𝓛 κs.0 κs.1.0 qs.0 qs.1.0 a.0.ref_ptr.0 a.0.ref_ptr.1 a.0.now
         a.1.0.ref_ptr.0 a.1.0.ref_ptr.1 a.1.0.ghost_name a.1.0.now (tables 𝓤 H 𝓜 𝓡 η).C (tables 𝓤 H 𝓜 𝓡 η).Λ fm g known are.1.0.0.1)))

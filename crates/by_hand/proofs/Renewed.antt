@@ -11,7 +11,7 @@ use mathlib.Core.Path.{refl}
 use Prim.Native.Nat.{ℕ}
 use mathlib.Core.List.{[], ◌∷◌, List}
 use seplogic.Ra.Ura.{Ura}
-use mir.Syntax.{Name, Fn, named, mut, ty_unit, ty_ref, local, value_local, place, deref, copy, opd_unit, rv_opd, assign, call, seq, return}
+use mir.Syntax.{Callee, Fn, named, mut, ty_unit, ty_ref, local, value_local, place, deref, copy, opd_unit, rv_opd, assign, call, seq, return}
 use mir.Val.{Val, vunit, vptr}
 use base.Logic.{SProp, ent, emp, via, fst∗, id⊢}
 use base.Fml.{GName, Lft, Share, ftrue, flft, fobs, fbor}
@@ -44,10 +44,12 @@ use Rattle.by_hand.proofs.Borrows.{opens_plain, closes_plain}
 use Rattle.by_hand.proofs.Calls.{returned, proved}
 
 module _ (P : PlainStruct) where
-  abbrev pub body : Name → Fn
+  abbrev pub body : Callee → Fn
   body g = record {
     lifetimes = 1;
     outlives = [];
+    ty_params = [];
+    givens = 0;
     params = 1;
     locals = local ty_unit value_local ∷ local (ty_ref (named 0) mut (pointee (row_of P).written)) value_local
         ∷ local (mir_of P) value_local ∷ local (mir_of P) value_local ∷ [];
@@ -109,7 +111,7 @@ module _ (P : PlainStruct) (φ : P.type.D → P.type.D → Type 0) where
     asked : Stands P h → ent 𝓤 (emp 𝓤) ((ByValue P φ 𝓤 𝓛).pre to_g)
     asked g = qed 𝓛 [] ∵ nothing ! $ owns_plain ! P h _ g $ fjoin ! $ nothing ! $ join ! $ frame ! $ done !
 
-    module _ (C : Calls 𝓤 H) (Λ : Loops 𝓤 H) (fm : FmC 𝓤 H 𝓛.laws C) (g : Name) (known : Triple 𝓤 (C g) (ByValue P φ 𝓤 𝓛)) where
+    module _ (C : Calls 𝓤 H) (Λ : Loops 𝓤 H) (fm : FmC 𝓤 H 𝓛.laws C) (g : Callee) (known : Triple 𝓤 (C g) (ByValue P φ 𝓤 𝓛)) where
       walk : ent 𝓤 (on_entry 𝓛 (lent_ended P).signature (κ, tt) (q, tt) x at) (WpFn 𝓤 H C Λ (body P g) (vptr b o ∷ []) Post)
       walk =
           qed 𝓛 ((‵ (flft κ q) ⊛ ‵ ftrue) ∷ ‵ (owns (MutRef (named 0) κ (row_of P) ∷ []) x at) ∷ []) ∵ enter ! C Λ (body P g) (vptr b o ∷ []) _ $
@@ -130,7 +132,7 @@ module _ (P : PlainStruct) (φ : P.type.D → P.type.D → Type 0) where
           move ! (11 ∷ 12 ∷ []) $ free1 ! $ move ! (9 ∷ 10 ∷ []) $ free1 ! $ move ! (7 ∷ 8 ∷ []) $ free1 ! $ move ! (5 ∷ 6 ∷ []) $ free1 ! $ free0 ! $
           keep ! (0 ∷ 1 ∷ 2 ∷ []) $ by ! (exits r e))))))))
 
-  module _ {M : Type 1} {𝓤 : Ura M} (𝓛 : Logic 𝓤) (𝓜 : Model 𝓤 𝓛.H) (𝓡 : Running 𝓤 𝓛.H 𝓜) (η : Env) (k g : Name) where
+  module _ {M : Type 1} {𝓤 : Ura M} (𝓛 : Logic 𝓤) (𝓜 : Model 𝓤 𝓛.H) (𝓡 : Running 𝓤 𝓛.H 𝓜) (η : Env) (k g : Callee) where
     open 𝓛 use {H}
 
     pub renewed : Closed 𝓤 H (tables 𝓤 H 𝓜 𝓡 η).C (tables 𝓤 H 𝓜 𝓡 η).Λ k (body P g) → Triple 𝓤 ((tables 𝓤 H 𝓜 𝓡 η).C g) (ByValue P φ 𝓤 𝓛)

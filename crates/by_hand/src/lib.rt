@@ -1,2 +1,2 @@
-// Laws for proofs by hand of functions over a lent struct, which the prover does not cover: all in proofs/. There is no code here.
+// Laws for proofs by hand of functions over a lent struct: all in proofs/. There is no code here.
 #![tactic(auto)]
