@@ -20,3 +20,16 @@ returns-then-room-lt-MIN_PAYLOAD_SIZE c =
     let a = c.args in
     let s = channel_bytes (low_bits a.self.0) in
     sym (placed_short a.buffer.now s (omega (arith, c.if-room-lt-MIN_PAYLOAD_SIZE.true, all (low_bits a.self.0))))
+
+pub put_all-requires : goal.put_all-requires
+put_all-requires c =
+    let in_range : Below 11 c.low_bits-low.result = subst (Below 11) (sym c.low_bits-low.ensures) (low_below c.args.self.0) in
+    record { channels_size_in_bounds = omega arith; below = in_range }
+
+pub returns : goal.returns
+returns c =
+    let a = c.args in
+    let d : List ℕ = a.buffer.now in
+    let s : List ℕ = channel_bytes (low_bits a.self.0) in
+    let room : channels_size ≤ length d = c.if-room-lt-MIN_PAYLOAD_SIZE.false in
+    rw (c.put_all.ensures, c.low_bits-low.ensures) (sym (placed_fits d 0 s (omega (arith, all (low_bits a.self.0)))))

@@ -11,7 +11,8 @@ unfolding gps_values
 returns-then-buffer-lt-MIN_PAYLOAD_SIZE c =
     no_room gps_layout (gps_values c.args.self) (lit≤ tt) c.args.buffer.now c.if-buffer-lt-MIN_PAYLOAD_SIZE.true
 
-unfolding gps_values
+pub returns : goal.returns
+unfolding gps_values put_from
 returns c =
     let typed : Typed gps_layout (gps_values c.args.self) = search rules in
     wrote_all gps_layout (gps_values c.args.self) (lit≤ tt) c.args.buffer.now c.if-buffer-lt-MIN_PAYLOAD_SIZE.false typed

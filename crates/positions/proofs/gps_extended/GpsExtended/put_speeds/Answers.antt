@@ -11,7 +11,8 @@ pub shape_of-buffer : goal.shape_of-buffer
 shape_of-buffer c =
     rw (c.put_i16-5.auto.out, c.put_i16-4.auto.out, c.put_i16-3.auto.out, c.put_i16-2.auto.out, c.put_i16.auto.out) c.put_u8.auto.out
 
-unfolding gps_extended_values
+pub returns : goal.returns
+unfolding gps_extended_values put_from
 returns c =
     let typed : Typed (take 6 gps_extended_layout) (take 6 (gps_extended_values c.args.self)) = search rules in
     put_fields (take 6 gps_extended_layout) (take 6 (gps_extended_values c.args.self)) 0 c.args.buffer.now (omega (arith, c.requires)) typed

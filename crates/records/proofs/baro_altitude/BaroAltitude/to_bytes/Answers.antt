@@ -11,7 +11,8 @@ unfolding baro_altitude_values
 returns-then-buffer-lt-MIN_PAYLOAD_SIZE c =
     no_room baro_altitude_layout (baro_altitude_values c.args.self) (lit≤ tt) c.args.buffer.now c.if-buffer-lt-MIN_PAYLOAD_SIZE.true
 
-unfolding baro_altitude_values
+pub returns : goal.returns
+unfolding baro_altitude_values put_from
 returns c =
     let typed : Typed baro_altitude_layout (baro_altitude_values c.args.self) = search rules in
     wrote_all baro_altitude_layout (baro_altitude_values c.args.self) (lit≤ tt) c.args.buffer.now c.if-buffer-lt-MIN_PAYLOAD_SIZE.false typed
