@@ -1,0 +1,40 @@
+-- `frames::write_voltages_values` meets its contract: what is left in the payload's places is framed. Assumes nothing.
+use Prim.Native.Nat.{◌+◌}
+use borrow.Author.Tests.{not-true, not-false}
+use Rattle.base.proofs.Tests.{not_as}
+use Rattle.packets.specs.Listed.{listed}
+use Rattle.series.specs.Series.{new_image}
+use Rattle.series.specs.Voltages.{voltages_type, voltages_kind}
+use Rattle.frames.proofs.Lent.{Framed, lent, unlisted, addressed}
+use Rattle.frames.proofs.Fits.{new_voltages_small}
+use mathlib.Core.Path.{ap}
+use mathlib.Core.Bool.{not}
+use Rattle.frames.proofs.write_voltages_values.Goals as goal
+
+pub returns-then-not-is_address : goal.returns-then-not-is_address
+returns-then-not-is_address c =
+    let a = c.args in
+    unlisted a.dest voltages_type (new_image voltages_kind a.voltage_source_id a.voltage_values.now) a.buffer.now
+    (not-true (listed a.dest) (not_as c.is_address.ensures (ap not c.if-not-is_address.true)))
+
+pub sealed-requires : goal.sealed-requires
+sealed-requires c =
+    let made : (let a = c.args in
+    Framed a.dest voltages_type a.buffer.now c.payload_start-from.result (c.payload_start-from.result + c.payload_room.result)
+    (new_image voltages_kind a.voltage_source_id a.voltage_values.now) c.write_values-written.result c.write_values-written.new.buffer) = let a = c.args in
+    lent a.dest voltages_type a.buffer.now _ _ c.payload_start-from.ensures (λ i. c.payload_start-from.ensures i + c.payload_room.ensures.0 i)
+    (new_image voltages_kind a.voltage_source_id a.voltage_values.now) (new_voltages_small a.voltage_source_id a.voltage_values.now) c.write_values-written.ensures in
+    let m = made in
+    (m.few, m.enough)
+
+pub returns : goal.returns
+returns c =
+    let made : (let a = c.args in
+    Framed a.dest voltages_type a.buffer.now c.payload_start-from.result (c.payload_start-from.result + c.payload_room.result)
+    (new_image voltages_kind a.voltage_source_id a.voltage_values.now) c.write_values-written.result c.write_values-written.new.buffer) = let a = c.args in
+    lent a.dest voltages_type a.buffer.now _ _ c.payload_start-from.ensures (λ i. c.payload_start-from.ensures i + c.payload_room.ensures.0 i)
+    (new_image voltages_kind a.voltage_source_id a.voltage_values.now) (new_voltages_small a.voltage_source_id a.voltage_values.now) c.write_values-written.ensures in
+    let a = c.args in
+    addressed a.dest voltages_type (new_image voltages_kind a.voltage_source_id a.voltage_values.now) a.buffer.now
+    (not-false (listed a.dest) (not_as c.is_address.ensures (ap not c.if-not-is_address.false)))
+    made c.sealed.ensures
