@@ -33,7 +33,7 @@ use Rattle.host_state.specs.Seen.{SeenPlaces, seen_places, SeenState, seen_state
 use Rattle.host_state.proofs.States.{sized, has_size_lem, state_size, places_count, whole}
 use Rattle.host_state.proofs.Laws.{moves}
 use Rattle.host_state.proofs.has_size.Reads as has-size'
-use Rattle.host_state.proofs.is_state.Reads as is_state_lem
+use Rattle.host_state.proofs.is_state.Reads as is_state
 use Rattle.host_state.proofs.position_of.Reads as position_of_lem
 use Rattle.host_state.proofs.move_to.Reads as move-to
 use Rattle.host_state.proofs.is_beyond.Reads as is-beyond

@@ -101,7 +101,7 @@ module _ {p₀ : List ℕ} {st₀ : Reader} {part out₀ places : List ℕ} {st 
   said = said_by unread places' r.answered.answer
 
   runs : Runs places st unread places' r.answered
-  runs = t.nexts.runs g.is_state
+  runs = t.nexts.runs g.is_state_lem
 
   said_is : said ≡ c.said
   said_is = ap (λ (x : Call). x.said) runs.shown

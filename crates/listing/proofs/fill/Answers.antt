@@ -50,9 +50,85 @@ list_one-one-requires c =
       omega (arith, enough, f.room, f.out_size, ap room_for numbered, room_past c.args.numbering f.given),
     )
 
+pub overflow_add-taken : goal.overflow_add-taken
+overflow_add-taken c =
+    let turn : (let s = c.loop-out in
+    let unread = drop s.taken c.args.input.now in let one = c.list_one-one in
+    Turns s.places s.from s.to c.moved_on-number.result unread s.out s.at one.new.places one.new.out one.result) = let s = c.loop-out in
+    let one = c.list_one-one in
+    subst
+    (λ (l : List ℕ).
+    Turns s.places s.from s.to c.moved_on-number.result l s.out s.at one.new.places one.new.out one.result)
+    (unread_is c.args.input.now s.taken)
+    one.ensures in
+    let numbered : (c.moved_on-number.result ≡ past c.args.numbering c.loop-out.invariant.given) = c.moved_on-number.ensures ∙ now_is c.loop-out.invariant in
+    let enough : (let s = c.loop-out in room_for c.args.numbering ≤ length s.out - s.at) = omega (arith, c.loop-out-test.true, c.room_for-room.ensures) in
+    omega (arith, takes c.loop-out.invariant numbered enough turn)
+
 pub shape_of-places-then-asks_for_more : goal.shape_of-places-then-asks_for_more
 shape_of-places-then-asks_for_more c =
     c.list_one-one.auto.places ∙ c.loop-out.invariant.going.size
+
+pub shape_of-out-then-asks_for_more : goal.shape_of-out-then-asks_for_more
+shape_of-out-then-asks_for_more c =
+    let turn : (let s = c.loop-out in
+    let unread = drop s.taken c.args.input.now in let one = c.list_one-one in
+    Turns s.places s.from s.to c.moved_on-number.result unread s.out s.at one.new.places one.new.out one.result) = let s = c.loop-out in
+    let one = c.list_one-one in
+    subst
+    (λ (l : List ℕ).
+    Turns s.places s.from s.to c.moved_on-number.result l s.out s.at one.new.places one.new.out one.result)
+    (unread_is c.args.input.now s.taken)
+    one.ensures in
+    let numbered : (c.moved_on-number.result ≡ past c.args.numbering c.loop-out.invariant.given) = c.moved_on-number.ensures ∙ now_is c.loop-out.invariant in
+    let enough : (let s = c.loop-out in room_for c.args.numbering ≤ length s.out - s.at) = omega (arith, c.loop-out-test.true, c.room_for-room.ensures) in
+    out_size' c.loop-out.invariant numbered enough turn
+
+pub returns-then-asks_for_more : goal.returns-then-asks_for_more
+returns-then-asks_for_more c =
+    let turn : (let s = c.loop-out in
+    let unread = drop s.taken c.args.input.now in let one = c.list_one-one in
+    Turns s.places s.from s.to c.moved_on-number.result unread s.out s.at one.new.places one.new.out one.result) = let s = c.loop-out in
+    let one = c.list_one-one in
+    subst
+    (λ (l : List ℕ).
+    Turns s.places s.from s.to c.moved_on-number.result l s.out s.at one.new.places one.new.out one.result)
+    (unread_is c.args.input.now s.taken)
+    one.ensures in
+    let numbered : (c.moved_on-number.result ≡ past c.args.numbering c.loop-out.invariant.given) = c.moved_on-number.ensures ∙ now_is c.loop-out.invariant in
+    let enough : (let s = c.loop-out in room_for c.args.numbering ≤ length s.out - s.at) = omega (arith, c.loop-out-test.true, c.room_for-room.ensures) in
+    filled_list c.requires.0 c.requires.1
+    (more c.loop-out.invariant numbered enough turn (sym c.asks_for_more.ensures ∙ c.if-asks_for_more.true))
+
+pub loop-out-smaller : goal.loop-out-smaller
+loop-out-smaller c =
+    let turn : (let s = c.loop-out in
+    let unread = drop s.taken c.args.input.now in let one = c.list_one-one in
+    Turns s.places s.from s.to c.moved_on-number.result unread s.out s.at one.new.places one.new.out one.result) = let s = c.loop-out in
+    let one = c.list_one-one in
+    subst
+    (λ (l : List ℕ).
+    Turns s.places s.from s.to c.moved_on-number.result l s.out s.at one.new.places one.new.out one.result)
+    (unread_is c.args.input.now s.taken)
+    one.ensures in
+    let numbered : (c.moved_on-number.result ≡ past c.args.numbering c.loop-out.invariant.given) = c.moved_on-number.ensures ∙ now_is c.loop-out.invariant in
+    let enough : (let s = c.loop-out in room_for c.args.numbering ≤ length s.out - s.at) = omega (arith, c.loop-out-test.true, c.room_for-room.ensures) in
+    less c.loop-out.invariant numbered enough turn (sym c.asks_for_more.ensures ∙ c.if-asks_for_more.false)
+
+pub loop-out-preserved : goal.loop-out-preserved
+loop-out-preserved c =
+    let turn : (let s = c.loop-out in
+    let unread = drop s.taken c.args.input.now in let one = c.list_one-one in
+    Turns s.places s.from s.to c.moved_on-number.result unread s.out s.at one.new.places one.new.out one.result) = let s = c.loop-out in
+    let one = c.list_one-one in
+    subst
+    (λ (l : List ℕ).
+    Turns s.places s.from s.to c.moved_on-number.result l s.out s.at one.new.places one.new.out one.result)
+    (unread_is c.args.input.now s.taken)
+    one.ensures in
+    let numbered : (c.moved_on-number.result ≡ past c.args.numbering c.loop-out.invariant.given) = c.moved_on-number.ensures ∙ now_is c.loop-out.invariant in
+    let enough : (let s = c.loop-out in room_for c.args.numbering ≤ length s.out - s.at) = omega (arith, c.loop-out-test.true, c.room_for-room.ensures) in
+    again c.loop-out.invariant numbered enough turn (sym c.asks_for_more.ensures ∙ c.if-asks_for_more.false)
 
 pub overflow_sub-to-2 : goal.overflow_sub-to-2
 overflow_sub-to-2 c =

@@ -16,3 +16,15 @@ returns-then-asks_for_more c =
       puts = puts_as (turn_asks c.args.numbering c.requires.0 steps (sym c.asks_for_more.ensures ∙ c.if-asks_for_more.true)) puts_none;
       short = omega arith;
     }
+
+pub returns : goal.returns
+returns c =
+    let steps = c.step_in-moved.ensures in
+    let lead = c.put_lead-behind.ensures in
+    let there : c.put_lead-behind.result + longest ≤ length c.put_lead-behind.new.out = omega (arith, lead.1, c.requires.1, c.put_lead-behind.auto.out) in
+    record {
+      steps = steps;
+      puts = puts_as (turn_says c.args.numbering c.requires.0 steps (sym c.asks_for_more.ensures ∙ c.if-asks_for_more.false))
+          (puts_then (omega (arith, lead.0.next, lead.1, c.requires.1)) lead.0 (puts_within longest there c.put_line-next.ensures.0));
+      short = omega (arith, lead.1, c.put_line-next.ensures.1);
+    }
