@@ -44,7 +44,7 @@ use Rattle.host_state.proofs.reset.Reads as reset
 use Rattle.host_state.proofs.save.Reads as save
 use Rattle.host_state.proofs.restore.Reads as restore
 
-pub is_state_one : OneAnswer {Seen = Bool} is_state_lem.Post (λ κs r s. r)
+pub is_state_one : OneAnswer {Seen = Bool} is_state.Post (λ κs r s. r)
 is_state_one κs a r r' s s' = same
 
 pub has_size_one : OneAnswer {Seen = Bool} has-size'.Post (λ κs r s. r)

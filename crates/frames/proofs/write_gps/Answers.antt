@@ -15,3 +15,25 @@ returns-then-not-is_address c =
     let a = c.args in
     unlisted a.dest gps_type (gps_image a.packet) a.buffer.now
     (not-true (listed a.dest) (not_as c.is_address.ensures (ap not c.if-not-is_address.true)))
+
+pub sealed-requires : goal.sealed-requires
+sealed-requires c =
+    let made : (let a = c.args in
+    Framed a.dest gps_type a.buffer.now c.payload_start-from.result (c.payload_start-from.result + c.payload_room.result)
+    (gps_image a.packet) c.to_bytes-written.result c.to_bytes-written.new.buffer) = let a = c.args in
+    lent a.dest gps_type a.buffer.now _ _ c.payload_start-from.ensures (λ i. c.payload_start-from.ensures i + c.payload_room.ensures.0 i)
+    (gps_image a.packet) (gps_small a.packet) c.to_bytes-written.ensures in
+    let m = made in
+    (m.few, m.enough)
+
+pub returns : goal.returns
+returns c =
+    let made : (let a = c.args in
+    Framed a.dest gps_type a.buffer.now c.payload_start-from.result (c.payload_start-from.result + c.payload_room.result)
+    (gps_image a.packet) c.to_bytes-written.result c.to_bytes-written.new.buffer) = let a = c.args in
+    lent a.dest gps_type a.buffer.now _ _ c.payload_start-from.ensures (λ i. c.payload_start-from.ensures i + c.payload_room.ensures.0 i)
+    (gps_image a.packet) (gps_small a.packet) c.to_bytes-written.ensures in
+    let a = c.args in
+    addressed a.dest gps_type (gps_image a.packet) a.buffer.now
+    (not-false (listed a.dest) (not_as c.is_address.ensures (ap not c.if-not-is_address.false)))
+    made c.sealed.ensures
