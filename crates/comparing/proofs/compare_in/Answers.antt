@@ -12,3 +12,11 @@ pub returns-then-is_counted : goal.returns-then-is_counted
 unfolding compared_of
 returns-then-is_counted c =
     (rw (sym c.is_counted.ensures ∙ c.if-is_counted.true) c.fill.ensures.0, c.fill.ensures.1)
+
+pub returns : goal.returns
+unfolding compared_of
+returns c =
+    (
+      rw (sym c.is_counted.ensures ∙ c.if-is_counted.false),
+      record { left_in = omega arith; right_in = omega arith; written_in = omega arith },
+    )

@@ -34,3 +34,12 @@ returns c =
     same_row (struct_of (head_of a.a.reply)) (struct_of (head_of a.b.reply)) ≡ true) = not-false _ (not_as same_is (ap not c.if-not-is_same_row.false)) in
     let number_is : (c.head_of-x.result.number ≡ get_or (head_of c.args.a.reply) 0 0) = ap (λ (x : Row). x.number) c.head_of-x.ensures in
     c.is_same.ensures ∙ same_frames c.requires.0 c.requires.1 same (sym number_is ∙ c.if-x-ne0.false)
+
+pub returns-then-x-ne0 : goal.returns-then-x-ne0
+returns-then-x-ne0 c =
+    let same_is : (let a = c.args in
+    c.is_same_row.result ≡ same_row (struct_of (head_of a.a.reply)) (struct_of (head_of a.b.reply))) = c.is_same_row.ensures ∙ ap₂ same_row c.head_of-x.ensures c.head_of-y.ensures in
+    let same : (let a = c.args in
+    same_row (struct_of (head_of a.a.reply)) (struct_of (head_of a.b.reply)) ≡ true) = not-false _ (not_as same_is (ap not c.if-not-is_same_row.false)) in
+    let number_is : (c.head_of-x.result.number ≡ get_or (head_of c.args.a.reply) 0 0) = ap (λ (x : Row). x.number) c.head_of-x.ensures in
+    same_refusals c.requires.0 c.requires.1 same (λ e. c.if-x-ne0.true (number_is ∙ e))

@@ -1,0 +1,101 @@
+-- `bursts::write_rc_channels_burst_values` meets its contract: each test refuses what the image refuses there, and past them all the frames are written.
+-- Assumes nothing.
+use mathlib.Core.Path.{◌≡◌, sym, ap, ap₂, ◌∙◌}
+use mathlib.Core.Bool.{true}
+use mathlib.Core.List.{List, []}
+use Prim.Native.Nat.{ℕ, ◌*◌, ◌≤◌, ◌<◌}
+use native.Mathlib.Omega.{arith}
+use borrow.Author.Tests.{ltb-true, not-true, not-false}
+use lib.ListN.{length, get_or}
+use Rattle.base.proofs.First.{first_found}
+use Rattle.base.proofs.Tests.{not_as}
+use Rattle.packets.specs.Listed.{listed}
+use Rattle.reading.specs.Frame.{joined}
+use Rattle.refusals.specs.declared.Refusal.TheVariants.{SetChannelRange}
+use Rattle.writing.specs.Writing.{bytes, written_row}
+use Rattle.writing.specs.declared.Written.TheVariants.{Wrote, Refused}
+use Rattle.writing.proofs.Writing.{writes, overflows, refuses}
+use Rattle.channels.specs.Channels.{channels_count, first_above}
+use Rattle.channels.specs.declared.RcChannelsPacked.{RcChannelsPacked}
+use Rattle.bursts.specs.Burst.{frame_size, bad, first_bad, set_frames, sets_image, sixteens, values_image}
+use Rattle.bursts.proofs.Images.{sets_refused, sets_bytes}
+use Rattle.bursts.proofs.Sixteens.{length_sixteens, sixteens_at, values_address, values_count, values_short, values_sets}
+use Rattle.bursts.proofs.Turns.{frames_long}
+use mathlib.Core.Bool.{not}
+use Rattle.bursts.proofs.write_rc_channels_burst_values.Goals as goal
+
+module _ (c : tie.After-first-above) where
+  abbrev found : tie.After-first-bad
+  found = c.before.before.before
+
+  abbrev enough : tie.Else3
+  enough = found.before
+
+  abbrev sets : List (List ℕ)
+  sets = Counted enough
+
+  set_is : found.first-bad.result ≡ first_bad sets
+  set_is = found.first-bad.ensures
+
+  less : first_bad sets < length sets
+  less = omega (arith, set_is, all_there enough, c.before.before.if4.true)
+
+  place : first_above (get_or sets (first_bad sets) []) < channels_count
+  place = ltb-true (first_above (get_or sets (first_bad sets) [])) channels_count (first_found bad [] sets less)
+
+  place_is : c.first_above.result ≡ first_above (get_or sets (first_bad sets) [])
+  place_is =
+      c.first_above.ensures
+      ∙ ap (λ (set : RcChannelsPacked). first_above set.0) c.before.set_at.ensures
+      ∙ ap first_above (sym (sixteens_at (Begin enough).args.count (Begin enough).args.channels.now found.first-bad.result c.before.before.if4.true))
+      ∙ ap (λ (j : ℕ). first_above (get_or sets j [])) set_is
+
+pub returns-then-not-is_address : goal.returns-then-not-is_address
+returns-then-not-is_address c =
+    let a = c.args in
+    rw (values_address a.dest a.channels.now a.count (not-true (listed a.dest) (not_as c.is_address.ensures (ap not c.if-not-is_address.true))))
+    (refuses _ a.buffer.now)
+
+pub returns-then-count-gt-SETS : goal.returns-then-count-gt-SETS
+returns-then-count-gt-SETS c =
+    let address : listed c.args.dest ≡ true = not-false (listed c.args.dest) (not_as c.is_address.ensures (ap not c.if-not-is_address.false)) in
+    let a = c.args in
+    rw (values_count a.dest a.channels.now a.count address (omega arith)) (refuses _ a.buffer.now)
+
+pub returns-then-channels-count : goal.returns-then-channels-count
+returns-then-channels-count c =
+    let address : listed c.args.dest ≡ true = not-false (listed c.args.dest) (not_as c.is_address.ensures (ap not c.if-not-is_address.false)) in
+    let a = c.args in
+    rw (values_short a.dest a.channels.now a.count address (omega arith) c.if-channels-count.true) (refuses _ a.buffer.now)
+
+pub returns-then-buffer-size : goal.returns-then-buffer-size
+returns-then-buffer-size c =
+    let Counted : List (List ℕ) = sixteens c.args.count c.args.channels.now in
+    let address : listed c.args.dest ≡ true = not-false (listed c.args.dest) (not_as c.is_address.ensures (ap not c.if-not-is_address.false)) in
+    let image_is : (let a = c.args in values_image a.dest a.channels.now a.count ≡ sets_image a.dest Counted) = let a = c.args in
+    values_sets a.dest a.channels.now a.count address (omega (arith, c.if-count-gt-SETS.false)) c.if-channels-count.false in
+    let all_there : length Counted ≡ c.args.count = length_sixteens c.args.count c.args.channels.now in
+    let good : length Counted ≤ first_bad Counted = omega (arith, all_there, c.first_bad-bad.ensures, c.if-bad-count.false) in
+    let image : (let a = c.args in values_image a.dest a.channels.now a.count ≡ bytes (joined (set_frames a.dest Counted))) = image_is ∙ sets_bytes c.args.dest Counted good in
+    let long : (let a = c.args in length (joined (set_frames a.dest Counted)) ≡ a.count * frame_size) = frames_long c.args.dest Counted ∙ ap (λ (n : ℕ). n * frame_size) all_there in
+    let a = c.args in
+    rw image (overflows _ a.buffer.now (a.count * frame_size) long c.if-buffer-size.true)
+
+pub put_sets-requires : goal.put_sets-requires
+put_sets-requires c =
+    record { count_le_most_sets = (omega (arith, c.if-count-gt-SETS.false), c.if-channels-count.false); frame_size_in_bounds = (c.if-buffer-size.false, omega (arith, c.first_bad-bad.ensures, c.if-bad-count.false)) }
+
+pub returns : goal.returns
+returns c =
+    let Counted : List (List ℕ) = sixteens c.args.count c.args.channels.now in
+    let address : listed c.args.dest ≡ true = not-false (listed c.args.dest) (not_as c.is_address.ensures (ap not c.if-not-is_address.false)) in
+    let image_is : (let a = c.args in values_image a.dest a.channels.now a.count ≡ sets_image a.dest Counted) = let a = c.args in
+    values_sets a.dest a.channels.now a.count address (omega (arith, c.if-count-gt-SETS.false)) c.if-channels-count.false in
+    let all_there : length Counted ≡ c.args.count = length_sixteens c.args.count c.args.channels.now in
+    let good : length Counted ≤ first_bad Counted = omega (arith, all_there, c.first_bad-bad.ensures, c.if-bad-count.false) in
+    let image : (let a = c.args in values_image a.dest a.channels.now a.count ≡ bytes (joined (set_frames a.dest Counted))) = image_is ∙ sets_bytes c.args.dest Counted good in
+    let long : (let a = c.args in length (joined (set_frames a.dest Counted)) ≡ a.count * frame_size) = frames_long c.args.dest Counted ∙ ap (λ (n : ℕ). n * frame_size) all_there in
+    let a = c.args in
+    rw image
+    (ap (λ (l : List ℕ). (written_row (Wrote (a.count * frame_size)), l)) c.put_sets.ensures
+    ∙ writes _ a.buffer.now (a.count * frame_size) long c.if-buffer-size.false)
