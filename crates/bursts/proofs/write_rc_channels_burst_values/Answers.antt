@@ -24,32 +24,6 @@ use Rattle.bursts.proofs.Turns.{frames_long}
 use mathlib.Core.Bool.{not}
 use Rattle.bursts.proofs.write_rc_channels_burst_values.Goals as goal
 
-module _ (c : tie.After-first-above) where
-  abbrev found : tie.After-first-bad
-  found = c.before.before.before
-
-  abbrev enough : tie.Else3
-  enough = found.before
-
-  abbrev sets : List (List ℕ)
-  sets = Counted enough
-
-  set_is : found.first-bad.result ≡ first_bad sets
-  set_is = found.first-bad.ensures
-
-  less : first_bad sets < length sets
-  less = omega (arith, set_is, all_there enough, c.before.before.if4.true)
-
-  place : first_above (get_or sets (first_bad sets) []) < channels_count
-  place = ltb-true (first_above (get_or sets (first_bad sets) [])) channels_count (first_found bad [] sets less)
-
-  place_is : c.first_above.result ≡ first_above (get_or sets (first_bad sets) [])
-  place_is =
-      c.first_above.ensures
-      ∙ ap (λ (set : RcChannelsPacked). first_above set.0) c.before.set_at.ensures
-      ∙ ap first_above (sym (sixteens_at (Begin enough).args.count (Begin enough).args.channels.now found.first-bad.result c.before.before.if4.true))
-      ∙ ap (λ (j : ℕ). first_above (get_or sets j [])) set_is
-
 pub returns-then-not-is_address : goal.returns-then-not-is_address
 returns-then-not-is_address c =
     let a = c.args in
@@ -99,3 +73,46 @@ returns c =
     rw image
     (ap (λ (l : List ℕ). (written_row (Wrote (a.count * frame_size)), l)) c.put_sets.ensures
     ∙ writes _ a.buffer.now (a.count * frame_size) long c.if-buffer-size.false)
+
+pub overflow_cast-set : goal.overflow_cast-set
+overflow_cast-set c =
+    let sets : List (List ℕ) = sixteens c.args.count c.args.channels.now in
+    let all_there : length sets ≡ c.args.count = length_sixteens c.args.count c.args.channels.now in
+    let set_is : c.first_bad-bad.result ≡ first_bad sets = c.first_bad-bad.ensures in
+    let less : first_bad sets < length sets = omega (arith, set_is, all_there, c.if-bad-count.true) in
+    omega (arith, set_is, less, all_there, c.if-count-gt-SETS.false)
+
+pub overflow_cast-channel : goal.overflow_cast-channel
+overflow_cast-channel c =
+    let sets : List (List ℕ) = sixteens c.args.count c.args.channels.now in
+    let all_there : length sets ≡ c.args.count = length_sixteens c.args.count c.args.channels.now in
+    let set_is : c.first_bad-bad.result ≡ first_bad sets = c.first_bad-bad.ensures in
+    let less : first_bad sets < length sets = omega (arith, set_is, all_there, c.if-bad-count.true) in
+    let place : first_above (get_or sets (first_bad sets) []) < channels_count =
+    ltb-true (first_above (get_or sets (first_bad sets) [])) channels_count (first_found bad [] sets less) in
+    let place_is : c.first_above-above.result ≡ first_above (get_or sets (first_bad sets) []) =
+    c.first_above-above.ensures
+    ∙ ap (λ (set : RcChannelsPacked). first_above set.0) c.set_at.ensures
+    ∙ ap first_above (sym (sixteens_at c.args.count c.args.channels.now c.first_bad-bad.result c.if-bad-count.true))
+    ∙ ap (λ (j : ℕ). first_above (get_or sets j [])) set_is in
+    omega (arith, place_is, place)
+
+pub returns-then-bad-count : goal.returns-then-bad-count
+returns-then-bad-count c =
+    let address : listed c.args.dest ≡ true = not-false (listed c.args.dest) (not_as c.is_address.ensures (ap not c.if-not-is_address.false)) in
+    let sets : List (List ℕ) = sixteens c.args.count c.args.channels.now in
+    let all_there : length sets ≡ c.args.count = length_sixteens c.args.count c.args.channels.now in
+    let set_is : c.first_bad-bad.result ≡ first_bad sets = c.first_bad-bad.ensures in
+    let less : first_bad sets < length sets = omega (arith, set_is, all_there, c.if-bad-count.true) in
+    let place : first_above (get_or sets (first_bad sets) []) < channels_count =
+    ltb-true (first_above (get_or sets (first_bad sets) [])) channels_count (first_found bad [] sets less) in
+    let place_is : c.first_above-above.result ≡ first_above (get_or sets (first_bad sets) []) =
+    c.first_above-above.ensures
+    ∙ ap (λ (set : RcChannelsPacked). first_above set.0) c.set_at.ensures
+    ∙ ap first_above (sym (sixteens_at c.args.count c.args.channels.now c.first_bad-bad.result c.if-bad-count.true))
+    ∙ ap (λ (j : ℕ). first_above (get_or sets j [])) set_is in
+    let a = c.args in
+    let image_is : values_image a.dest a.channels.now a.count ≡ sets_image a.dest sets =
+    values_sets a.dest a.channels.now a.count address (omega (arith, c.if-count-gt-SETS.false)) c.if-channels-count.false in
+    rw (image_is, sets_refused a.dest sets less)
+    (ap₂ (λ (x y : ℕ). (written_row (Refused (SetChannelRange x y)), a.buffer.now)) set_is place_is ∙ refuses _ a.buffer.now)

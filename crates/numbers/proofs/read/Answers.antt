@@ -1,11 +1,10 @@
-use Prim.Native.Nat.{◌+◌, ◌-◌, ◌^◌, ◌≤◌, ◌<◌}
+use Prim.Native.Nat.{◌+◌, ◌^◌, ◌≤◌, ◌<◌}
 use mathlib.Core.Path.{◌≡◌, refl}
 use native.Mathlib.Nat.{lt_of_lt_of_le, pow-le-pow_right}
 use lib.Dec.{lit<}
 use native.Mathlib.Omega.{arith}
 use Rattle.base.specs.Bytes.{Bytes}
 use Rattle.numbers.specs.BigEndian.{be_of}
-use Rattle.base.specs.Parts.{part}
 use Rattle.numbers.proofs.BigEndian.{be_of_snoc}
 use Rattle.base.proofs.Parts.{part_snoc}
 use Rattle.numbers.proofs.BigEndian.{be_of_part_lt}

@@ -2,9 +2,8 @@ use Prim.Native.Nat.{ℕ, suc, ◌+◌, ◌-◌, ◌^◌}
 use mathlib.Core.Path.{◌≡◌, refl, sym}
 use native.Mathlib.Nat.{add-zero, sub-zero, pow-zero, pow-suc, div-one, div-div-eq-div-mul}
 use native.Mathlib.Omega.{arith}
-use lib.ListN.{length, length-set}
+use lib.ListN.{length-set}
 use Rattle.numbers.specs.BigEndian.{bytes_of}
-use Rattle.base.specs.Parts.{pasted}
 use Rattle.base.proofs.Parts.{pasted_nil, pasted_cons}
 use Rattle.numbers.proofs.write.Goals as goal
 
