@@ -1,15 +1,14 @@
 -- Each state that can go on is one that some log leads to.
 -- Assumes nothing.
-use mathlib.Core.Path.{◌≡◌, refl, sym, ap, ap₂, ◌∙◌}
+use mathlib.Core.Path.{◌≡◌, sym, ap, ap₂, ◌∙◌}
 use mathlib.Core.Logic.{◌⊎◌, inl, inr}
-use mathlib.Core.List.{List, [], ◌∷◌, ◌++◌}
+use mathlib.Core.List.{List, [], ◌∷◌}
 use Prim.Native.Nat.{ℕ, zero, suc, ◌+◌, ◌*◌, ◌/◌, ◌%◌, ◌-◌, ◌^◌, ◌≤◌, ◌<◌}
 use native.Mathlib.Nat.{div-add-mod', div-lt_iff_lt-mul, pow-suc}
 use native.Mathlib.Omega.{arith}
 use lib.Dec.{lit<, lit≤}
 use lib.ListN.{length}
 use Rattle.refusals.specs.declared.Refusal.TheVariants.{InvalidLog, InvalidFrame}
-use Rattle.groups.specs.Groups.{groups}
 use Rattle.groups.specs.Reading.{step, unfinished, run, read}
 use Rattle.groups.specs.declared.Step.TheVariants.{GoesOn}
 use Rattle.groups.proofs.Reading.{step_on, run_on}

@@ -1,7 +1,7 @@
 -- A call takes 71 bytes at most, whatever stands in the piece, and leads from a state that a log leads to, to another.
 -- Assumes nothing.
 use mathlib.Core.Path.{◌≡◌, refl, sym, ap, ◌∙◌, subst}
-use mathlib.Core.Bool.{true, false, ◌&&◌, and-eq-true_iff}
+use mathlib.Core.Bool.{true, ◌&&◌, and-eq-true_iff}
 use mathlib.Core.List.{List, [], ◌∷◌, ◌++◌}
 use Prim.Native.Nat.{ℕ, zero, suc, ◌+◌, ◌*◌, ◌-◌, ◌^◌, ◌≤◌, ◌<◌}
 use native.Mathlib.Nat.{mul-le-mul_right}
@@ -9,18 +9,16 @@ use native.Mathlib.Omega.{arith}
 use borrow.Author.Tests.{eqb-true, leb-true, ltb-true, ltb-false}
 use lib.Dec.{eqb, leb, ltb}
 use lib.ListN.{length}
-use Rattle.base.specs.Choice.{if◌then◌else◌}
 use Rattle.base.proofs.Tests.{by_test}
-use Rattle.refusals.specs.declared.Refusal.TheVariants.{InvalidLog, InvalidFrame}
+use Rattle.refusals.specs.declared.Refusal.TheVariants.{InvalidLog}
 use Rattle.groups.specs.Reading.{step}
 use Rattle.groups.specs.declared.Step.{Step}
-use Rattle.groups.specs.declared.Step.TheVariants.{GoesOn, Done, Malformed}
 use Rattle.groups.proofs.Reading as groups
 use Rattle.groups.proofs.Reading.{Case, cases}
 use Rattle.reading.specs.Reading.{limit}
 use Rattle.kit_log.specs.Entry.{Entry, greatest}
 use Rattle.kit_log.specs.Reading.{Want, version, seconds, size, State, number, frame, refused, ended, Fed, on, entry, meaning, feed_number, fine, feed_frame, feed, takes}
-use Rattle.kit_log.specs.Call.{said_at, Call, call}
+use Rattle.kit_log.specs.Call.{Call, call}
 use Rattle.kit_log.specs.Room.{Weight, Led, most_in, most}
 use Rattle.kit_log.proofs.Agrees.{feed_part, feed_whole, feed_bad, snoc}
 use Rattle.kit_log.proofs.History.{call_on, call_entry, call_refused, call_ended}

@@ -1,12 +1,11 @@
 -- The seconds that a reader keeps are a number of a log, whatever it is fed.
 -- Assumes nothing.
-use mathlib.Core.Path.{◌≡◌, refl, sym, subst}
+use mathlib.Core.Path.{◌≡◌, refl, subst}
 use mathlib.Core.Bool.{◌&&◌}
 use mathlib.Core.List.{List, [], ◌∷◌, ◌++◌}
 use Prim.Native.Nat.{ℕ, ◌≤◌}
 use lib.Dec.{eqb, leb, ltb}
 use lib.ListN.{length}
-use Rattle.base.specs.Choice.{if◌then◌else◌}
 use Rattle.base.proofs.Tests.{by_test}
 use borrow.Author.Tests.{ltb-true, ltb-false}
 use Rattle.groups.specs.Reading.{step}
@@ -14,8 +13,8 @@ use Rattle.groups.specs.declared.Step.{Step}
 use Rattle.groups.specs.declared.Step.TheVariants.{GoesOn, Done, Malformed}
 use Rattle.groups.proofs.Reading.{done_small}
 use Rattle.reading.specs.Reading.{limit}
-use Rattle.kit_log.specs.Entry.{Entry, greatest}
-use Rattle.kit_log.specs.Reading.{Want, version, seconds, size, State, number, frame, refused, ended, Fed, on, entry, meaning, feed_number, fine, feed_frame, feed, after}
+use Rattle.kit_log.specs.Entry.{greatest}
+use Rattle.kit_log.specs.Reading.{Want, version, seconds, size, State, number, frame, refused, ended, Fed, on, entry, meaning, feed_number, fine, feed, after}
 use Rattle.kit_log.specs.Call.{call}
 use Rattle.kit_log.specs.Room.{Behind, Small}
 use Rattle.kit_log.proofs.Agrees.{feed_part, feed_whole, feed_bad}

@@ -3,7 +3,7 @@
 use Rattle.std.specs.Prelude.{ℕ, List, [], ◌∷◌, ◌++◌, map}
 use Rattle.refusals.specs.Row.{number_of}
 use Rattle.kit_log.specs.Entry.{Entry}
-use Rattle.kit_log.specs.Reading.{seconds, State, number, frame, refused, ended, reading, finish}
+use Rattle.kit_log.specs.Reading.{State, number, frame, refused, ended, reading, finish}
 
 -- an end's number: 0 where the log may end
 abbrev pub end_number : State → ℕ

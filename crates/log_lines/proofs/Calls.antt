@@ -1,15 +1,15 @@
 -- Calls of the reader over a part of a log, one after another.
 -- Assumes nothing.
 use mathlib.Core.Path.{◌≡◌, refl, sym, ap, ◌∙◌}
-use mathlib.Core.List.{List, [], ◌∷◌, ◌++◌, append-nil, nil≢cons}
-use Prim.Native.Nat.{ℕ, ◌+◌, ◌≤◌}
+use mathlib.Core.List.{List, [], ◌∷◌, append-nil, nil≢cons}
+use Prim.Native.Nat.{ℕ, ◌≤◌}
 use native.Mathlib.Omega.{arith}
 use lib.ListN.{length, drop}
 use Rattle.refusals.specs.declared.Refusal.{Refusal}
 use Rattle.refusals.specs.declared.Refusal.TheVariants.{InvalidLog}
 use Rattle.kit_log.specs.Entry.{Entry}
-use Rattle.kit_log.specs.Reading.{State, number, frame, refused, ended, Fed, on, entry, feed, takes, Reading, before, read_from}
-use Rattle.kit_log.specs.Call.{Said, said_at, gives, refuses, Call, call, given}
+use Rattle.kit_log.specs.Reading.{State, number, frame, refused, ended, Fed, on, entry, feed, takes, before, read_from}
+use Rattle.kit_log.specs.Call.{said_at, refuses, Call, call, given}
 use Rattle.kit_log.proofs.History.{call_on, call_entry, call_refused, call_ended, call_reads}
 
 none_at : (st : State) → given (said_at st) ≡ []

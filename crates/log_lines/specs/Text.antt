@@ -6,7 +6,7 @@ use Rattle.refusals.specs.Row.{number_of}
 use Rattle.refusals.specs.declared.Refusal.{Refusal}
 use Rattle.lines.specs.Lines.{leading, spaced_decimal, line_end, frame_line_at}
 use Rattle.kit_log.specs.Entry.{Entry}
-use Rattle.kit_log.specs.Reading.{State, number, frame, refused, ended, read_from, reading, finish}
+use Rattle.kit_log.specs.Reading.{State, read_from, reading, finish}
 use Rattle.log_reader.specs.Reader.{ending_of}
 use Rattle.log_reader.specs.declared.Ending.{Ending}
 use Rattle.log_reader.specs.declared.Ending.TheVariants.{Log, Refused}

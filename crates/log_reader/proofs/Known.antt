@@ -1,13 +1,13 @@
 -- A reader is known by what it stands for, and a call's answer by what it says and how many bytes it took.
 -- Assumes nothing.
 use mathlib.Core.Path.{◌≡◌, refl, sym, ap, ap₂, ◌∙◌}
-use mathlib.Core.Bool.{Bool, true, false}
+use mathlib.Core.Bool.{true, false}
 use mathlib.Core.List.{List, []}
-use Prim.Native.Nat.{ℕ, ◌+◌, ◌-◌, ◌≤◌, ◌<◌}
+use Prim.Native.Nat.{ℕ, ◌-◌}
 use native.Mathlib.Omega.{arith}
 use borrow.Author.Tests.{le-leb, lt-leb}
 use lib.Dec.{leb}
-use lib.ListN.{length, take, drop}
+use lib.ListN.{length, take}
 use lib.Seq.{length-take-le}
 use Rattle.base.specs.Choice.{if◌then◌else◌}
 use Rattle.base.specs.Parts.{part}
@@ -16,8 +16,8 @@ use Rattle.base.proofs.Tests.{by_test}
 use Rattle.kit_log.specs.Reading.{Want, version, seconds, size, State, number, frame, refused, ended}
 use Rattle.kit_log.specs.Call.{Said, more, gives, refuses, Call, call}
 use Rattle.kit_log.proofs.Weights.{groups_at, weight_back}
-use Rattle.log_reader.specs.State.{want_of, weight_of, state_of, is_state}
-use Rattle.log_reader.specs.Reader.{said_by, Placed, Runs, Nexts, Finishes, Closes}
+use Rattle.log_reader.specs.State.{want_of, state_of, is_state}
+use Rattle.log_reader.specs.Reader.{said_by, Placed, Runs, Nexts, Closes}
 use Rattle.log_reader.specs.Seen.{held_by, frame_among, Seen, seen}
 use Rattle.log_reader.specs.declared.Wanted.{Wanted}
 use Rattle.log_reader.specs.declared.Wanted.TheVariants.{Version, Seconds, Size}

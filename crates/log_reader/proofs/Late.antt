@@ -1,7 +1,7 @@
 -- Why a frame that the places hold was begun before the piece: one that begins in the piece is taken from there at once, or does not end in it.
 -- Assumes nothing.
-use mathlib.Core.Path.{◌≡◌, refl, sym, ap, ◌∙◌, subst}
-use mathlib.Core.Bool.{Bool, true, false, not, ◌&&◌}
+use mathlib.Core.Path.{◌≡◌, refl, sym, ap, subst}
+use mathlib.Core.Bool.{◌&&◌}
 use mathlib.Core.Logic.{◌⊎◌, inl, inr, ⊎_elim}
 use mathlib.Core.List.{List, [], ◌∷◌, ◌++◌}
 use Prim.Native.Nat.{ℕ, ◌+◌, ◌-◌, ◌≤◌, ◌<◌}
@@ -9,7 +9,6 @@ use native.Mathlib.Omega.{arith}
 use borrow.Author.Tests.{ltb-true, ltb-false}
 use lib.Dec.{ltb, leb, eqb}
 use lib.ListN.{length}
-use Rattle.base.specs.Choice.{if◌then◌else◌}
 use Rattle.base.proofs.Tests.{by_test}
 use Rattle.groups.specs.Reading.{step}
 use Rattle.groups.specs.declared.Step.{Step}
@@ -17,7 +16,7 @@ use Rattle.groups.specs.declared.Step.TheVariants.{GoesOn, Done, Malformed}
 use Rattle.reading.specs.Reading.{limit}
 use Rattle.refusals.specs.declared.Refusal.TheVariants.{InvalidFrame}
 use Rattle.kit_log.specs.Entry.{Entry, greatest}
-use Rattle.kit_log.specs.Reading.{Want, version, seconds, size, State, number, frame, refused, ended, boundary, Fed, on, entry, meaning, feed_number, fine, feed_frame, feed}
+use Rattle.kit_log.specs.Reading.{Want, version, seconds, size, State, number, frame, refused, ended, Fed, on, entry, meaning, feed_number, fine, feed_frame, feed}
 use Rattle.kit_log.proofs.Agrees.{feed_part, feed_whole, feed_bad, snoc}
 
 -- at place i of a piece of m bytes: no byte of the frame has come; or more than the piece has given; or it does not end in the piece

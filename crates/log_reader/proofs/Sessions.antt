@@ -1,6 +1,6 @@
 -- Every session with the reader is a history of the definition's calls: so whatever the cuts, it gives the log's entries and comes to its end state.
 -- Assumes nothing.
-use mathlib.Core.Path.{◌≡◌, refl, sym, subst}
+use mathlib.Core.Path.{◌≡◌, sym, subst}
 use mathlib.Core.Bool.{true}
 use Prim.Native.Nat.{ℕ}
 use mathlib.Core.List.{List, ◌++◌}

@@ -12,11 +12,11 @@ use lib.ListN.{length, get_or, take, drop}
 use lib.Seq.{drop-cons, drop-length, length-take-le}
 use Rattle.base.proofs.Tests.{by_test}
 use Rattle.kit_log.specs.Entry.{Entry}
-use Rattle.kit_log.specs.Reading.{number, frame, refused, boundary, on, feed, takes, finish}
+use Rattle.kit_log.specs.Reading.{number, refused, boundary, on, feed, takes, finish}
 use Rattle.kit_log.specs.Call.{Said, gives, refuses, said_at, Call, later, call}
 use Rattle.log_reader.specs.State.{want_of, weight_of, can_go_on, of_logs, state_of, is_state}
-use Rattle.log_reader.specs.Reader.{said_by, Placed, Runs, Nexts, ending_of, Finishes, Closes}
-use Rattle.log_reader.specs.Parts.{stops, FedNumber, Turns, FedFrame, refusal_at, answer_at, fresh_of, end_number, end_reader, ending_at}
+use Rattle.log_reader.specs.Reader.{said_by, Placed, Runs, Nexts, ending_of, Closes}
+use Rattle.log_reader.specs.Parts.{stops, FedNumber, Turns, FedFrame, refusal_at, answer_at, end_number, end_reader, ending_at}
 use Rattle.log_reader.specs.declared.Wanted.{Wanted}
 use Rattle.log_reader.specs.declared.Wanted.TheVariants.{Version, Seconds, Size}
 use Rattle.refusals.specs.declared.Refusal.{Refusal}

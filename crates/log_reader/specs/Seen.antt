@@ -5,7 +5,6 @@ use Rattle.std.specs.Prelude.{Bool, List, [], ℕ, take}
 use Rattle.base.specs.Choice.{if◌then◌else◌}
 use Rattle.log_reader.specs.declared.Reader.{Reader}
 use Rattle.log_reader.specs.declared.Reader.TheVariants as reader
-use Rattle.log_reader.specs.declared.Place.{Place}
 use Rattle.log_reader.specs.declared.Place.TheVariants.{InPiece, InHeld}
 use Rattle.log_reader.specs.declared.Answer.{Answer}
 use Rattle.log_reader.specs.declared.Answer.TheVariants.{More, Entry, Refused}

@@ -1,6 +1,6 @@
 -- What the code's reader stands for, over the places that hold a frame's bytes (RULES 16.9).
 -- Assumes nothing.
-use Rattle.std.specs.Prelude.{Bool, true, false, ◌&&◌, ◌||◌, List, ℕ, ◌^◌, leb, ltb, eqb, length, take}
+use Rattle.std.specs.Prelude.{Bool, true, ◌&&◌, ◌||◌, List, ℕ, ◌^◌, leb, ltb, eqb, length, take}
 use Rattle.base.specs.Choice.{if◌then◌else◌}
 use Rattle.refusals.specs.Row.{number_of}
 use Rattle.refusals.specs.declared.Refusal.{Refusal}

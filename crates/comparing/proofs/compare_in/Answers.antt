@@ -15,8 +15,7 @@ returns-then-is_counted c =
 
 pub returns : goal.returns
 unfolding compared_of
-returns c =
-    (
-      rw (sym c.is_counted.ensures ∙ c.if-is_counted.false),
-      record { left_in = omega arith; right_in = omega arith; written_in = omega arith },
-    )
+returns c = (
+  rw (sym c.is_counted.ensures ∙ c.if-is_counted.false),
+  record { left_in = omega arith; right_in = omega arith; written_in = omega arith },
+)

@@ -1,6 +1,6 @@
 use mathlib.Core.Path.{refl, ◌∙◌}
 use native.Mathlib.Omega.{arith}
-use lib.ListN.{length, length-set}
+use lib.ListN.{length-set}
 use Rattle.groups.proofs.Groups.{rest_less, low_small}
 use Rattle.groups.proofs.Steps.{one_long, more_long, put_last, put_rest}
 use Rattle.groups.proofs.put_all.Goals as goal

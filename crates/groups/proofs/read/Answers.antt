@@ -1,4 +1,3 @@
-use Prim.Native.Nat.{◌-◌}
 use native.Mathlib.Omega.{arith}
 use Rattle.groups.proofs.Fronts.{none_passed, front_unfinished, front_on, front_number, front_malformed}
 use Rattle.groups.proofs.read.Goals as goal

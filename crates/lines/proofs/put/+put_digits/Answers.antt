@@ -1,6 +1,5 @@
 -- `lines::put::put_digits` meets its contract. The digits of the tens leave a place for one more. Assumes nothing.
 use native.Mathlib.Omega.{arith}
-use lib.ListN.{length}
 use Rattle.lines.proofs.Digits.{length_tens}
 use Rattle.lines.proofs.Numbers.{puts_units, puts_tens, one_long}
 use Rattle.lines.proofs.put.+put_digits.Goals as goal

@@ -1,12 +1,12 @@
 -- `saved::form::save_in` meets its contract. Assumes nothing.
-use mathlib.Core.Path.{◌≡◌, ◌∙◌}
+use mathlib.Core.Path.{◌≡◌}
 use mathlib.Core.Bool.{Bool, true, not}
 use Prim.Native.Nat.{ℕ, ◌+◌, ◌-◌, ◌≤◌}
 use native.Mathlib.Nat.{lt_of_le_of_lt}
 use native.Mathlib.Omega.{arith}
 use borrow.Author.Tests.{not-true, not-false, leb-true}
 use lib.Dec.{lit<}
-use lib.ListN.{length, length-append, length-take, length-drop, length-set}
+use lib.ListN.{length}
 use Rattle.base.specs.Parts.{fits_in}
 use Rattle.base.proofs.Tests.{not_as}
 use Rattle.groups.specs.Groups.{groups}
