@@ -1,12 +1,16 @@
 // What the arguments of a program ask for: one argument, and all of a program that takes one file.
 ghost use Rattle.std.specs.Prelude.{◌≡◌};
-ghost use Rattle.io.specs.Counts.{IsPrefixLen};
+ghost use Rattle.program.specs.Counts.{IsPrefixLen};
 ghost use Rattle.program.specs.Answers.{asked_by};
 
-use crate::tell;
 use crate::words::is_option;
+use crate::{Console, say, tell};
 use base::is_same;
-use libc::STDERR_FILENO;
+use std::env::{Env, FillError};
+use std::io;
+
+// The number of the system's error of a name that is too long.
+const TOO_LONG: i32 = 36;
 
 #[derive(Clone, Copy)]
 pub enum Asked {
@@ -30,25 +34,26 @@ pub struct Arguments {
 }
 
 // Bad usage.
-fn refuse(usage: &[u8]) -> Asked
+fn refuse(console: &Console<'_>, usage: &[u8]) -> Asked
     ensures { result ≡ Asked.Refused }
 {
-    io::write_all(STDERR_FILENO, usage);
+    say(console, usage);
     Asked::Refused
 }
 
-fn refuse_option(name: &[u8], usage: &[u8], word: &[u8]) -> Asked
+fn refuse_option(console: &Console<'_>, usage: &[u8], word: &[u8]) -> Asked
     ensures { result ≡ Asked.Refused }
 {
-    io::write_all(STDERR_FILENO, name);
-    io::write_all(STDERR_FILENO, b": there is no option ");
-    io::write_all(STDERR_FILENO, word);
-    io::write_all(STDERR_FILENO, b"\n");
-    refuse(usage)
+    say(console, console.name);
+    say(console, b": there is no option ");
+    say(console, word);
+    say(console, b"\n");
+    refuse(console, usage)
 }
 
 // What one argument asks for. Standard error names an unknown option, and has the usage line behind that.
-pub fn asked_by(name: &[u8], usage: &[u8], word: &[u8]) -> Asked
+#[tactic(auto, unfolding(crate::specs::Answers::asked_by))]
+pub fn asked_by(console: &Console<'_>, usage: &[u8], word: &[u8]) -> Asked
     ensures { result ≡ asked_by word.now }
 {
     if is_same(word, b"-") {
@@ -61,44 +66,59 @@ pub fn asked_by(name: &[u8], usage: &[u8], word: &[u8]) -> Asked
         return Asked::Version;
     }
     if is_option(word) {
-        return refuse_option(name, usage, word);
+        return refuse_option(console, usage, word);
     }
     Asked::File
 }
 
-fn read_argument(name: &[u8], usage: &[u8], word: &mut [u8]) -> Arguments
+// Whether there is an argument of that number. The program's name is number 0.
+pub fn is_given(console: &Console<'_>, number: usize) -> bool {
+    let mut front = [0u8; 1];
+    match console.rt.arg(number, &mut front) {
+        Ok(_) => true,
+        Err(FillError::TooLong) => true,
+        Err(FillError::NotPresent) => false,
+    }
+}
+
+// The first argument, where there is one. It comes to the buffer.
+fn read_argument(console: &Console<'_>, usage: &[u8], word: &mut [u8]) -> Arguments
     ensures { IsPrefixLen result.len word.new }
 {
-    let len = os::arg(1, word);
-    if os::errno() != 0 {
-        tell(name, b"the argument");
-        return Arguments {
-            asked: Asked::Failed,
+    match console.rt.arg(1, word) {
+        Ok(len) => {
+            let asked = asked_by(console, usage, &word[..len]);
+            Arguments { asked, len }
+        }
+        Err(FillError::NotPresent) => Arguments {
+            asked: Asked::Input,
             len: 0,
-        };
+        },
+        Err(FillError::TooLong) => {
+            tell(
+                console,
+                b"the argument",
+                io::Error::from_raw_os_error(TOO_LONG),
+            );
+            Arguments {
+                asked: Asked::Failed,
+                len: 0,
+            }
+        }
     }
-    let asked = asked_by(name, usage, &word[..len]);
-    Arguments { asked, len }
 }
 
 // What the arguments ask for. The first comes to the buffer.
-pub fn read_arguments(name: &[u8], usage: &[u8], word: &mut [u8]) -> Arguments
+pub fn read_arguments(console: &Console<'_>, usage: &[u8], word: &mut [u8]) -> Arguments
     ensures { IsPrefixLen result.len word.new }
 {
-    let count = os::arg_count();
-    if count < 2 {
-        return Arguments {
-            asked: Asked::Input,
-            len: 0,
-        };
+    if !is_given(console, 2) {
+        return read_argument(console, usage, word);
     }
-    if count == 2 {
-        return read_argument(name, usage, word);
-    }
-    io::write_all(STDERR_FILENO, name);
-    io::write_all(STDERR_FILENO, b": more than one argument\n");
+    say(console, console.name);
+    say(console, b": more than one argument\n");
     Arguments {
-        asked: refuse(usage),
+        asked: refuse(console, usage),
         len: 0,
     }
 }

@@ -1,17 +1,29 @@
-// What every program for people shares: text to a descriptor, bytes from one, what failed and why on standard error, and what the arguments ask for.
-// What the system does with a descriptor, and which arguments there are, is outside any contract. A read or a write that a signal interrupted is asked
-// again.
+// What every program for people shares: text on standard output, bytes from a file or from standard input, what failed and why on standard error, and
+// what the arguments ask for. What the system does with a read or a write, and which arguments there are, is outside any contract. A read or a write
+// that a signal interrupted is asked again.
 #![tactic(auto)]
 
 mod argument;
+mod cause;
+mod source;
 pub mod words;
 
-ghost use Rattle.std.specs.Prelude.{◌≡◌, ◌≤◌, length};
-ghost use Rattle.io.specs.Counts.{IsPrefixLen};
+ghost use Rattle.std.specs.Prelude.{◌≡◌, ◌≤◌, OnOk};
+ghost use Rattle.program.specs.Counts.{IsPrefixLen};
+ghost use Rattle.std.specs.Io.KnownBytes.{Appends};
 ghost use Rattle.program.specs.Answers.{printed};
 
 pub use argument::{Arguments, Asked, asked_by, read_arguments};
-use libc::{STDERR_FILENO, STDOUT_FILENO};
+pub use source::{Input, Source, open_source};
+use std::io;
+use std::io::{ErrorKind, Read, Write};
+
+// What a program speaks to: the system, and the program's name, which stands before what it says on standard error.
+#[derive(Clone, Copy)]
+pub struct Console<'a> {
+    pub rt: &'a HostRuntime,
+    pub name: &'a [u8],
+}
 
 // What a read brought: that many bytes at the front of the piece, none where the input has ended or the read has failed.
 #[derive(Clone, Copy)]
@@ -20,76 +32,45 @@ pub struct Came {
     pub has_failed: bool,
 }
 
-// How many bytes one write took, and whether to go on.
-#[derive(Clone, Copy)]
-struct Put {
-    taken: usize,
-    goes_on: bool,
-}
-
-fn is_interrupted() -> bool {
-    os::errno() == libc::EINTR
-}
-
-fn write_some(fd: i32, bytes: &[u8]) -> Put
-    ensures { result.taken ≤ length bytes.now }
+// Writes all of the bytes.
+pub fn write_text<W: Write>(to: &mut W, bytes: &[u8]) -> io::Result<()>
+    ensures { OnOk result (Appends (W.contents to.old) (W.contents to.new) bytes.now) }
 {
-    let got = libc::write(fd, bytes);
-    if got < 0 {
-        return Put {
-            taken: 0,
-            goes_on: is_interrupted(),
-        };
-    }
-    let taken = io::count(got, bytes);
-    Put {
-        taken,
-        goes_on: 0 < taken,
-    }
+    to.write_all(bytes)
 }
 
-// Writes all of the bytes. The loop counts its turns down, from a number that no run uses up.
-pub fn write_text(fd: i32, bytes: &[u8]) -> bool {
-    let mut done = 0;
-    let mut turns = u64::MAX;
-    while 0 < turns {
-        turns -= 1;
-        if bytes.len() <= done {
-            return true;
-        }
-        let put = write_some(fd, &bytes[done..]);
-        done += put.taken;
-        if !put.goes_on {
-            return false;
+// .. to standard output. Where that fails the cause is told.
+pub fn print(console: &Console<'_>, text: &[u8]) -> bool {
+    match write_text(&mut console.rt.stdout(), text) {
+        Ok(()) => true,
+        Err(error) => {
+            tell(console, b"standard output", error);
+            false
         }
     }
-    false
 }
 
-// .. to standard output.
-pub fn print(text: &[u8]) -> bool {
-    write_text(STDOUT_FILENO, text)
-}
-
-// One read.
-pub fn read_some(fd: i32, piece: &mut [u8]) -> Came
+// One read. Where it fails the cause is told. The loop counts its turns, to a number that no run uses up.
+pub fn read_some(console: &Console<'_>, input: &mut Input<'_>, piece: &mut [u8]) -> Came
     ensures { IsPrefixLen result.count piece.new }
 {
-    let mut turns = u64::MAX;
-    while 0 < turns {
-        turns -= 1;
-        let got = libc::read(fd, piece);
-        if 0 <= got {
-            return Came {
-                count: io::count(got, piece),
-                has_failed: false,
-            };
-        }
-        if !is_interrupted() {
-            return Came {
-                count: 0,
-                has_failed: true,
-            };
+    for _ in 0..u64::MAX {
+        match input.source.read(piece) {
+            Ok(count) => {
+                return Came {
+                    count,
+                    has_failed: false,
+                };
+            }
+            Err(error) => {
+                if error.kind() != ErrorKind::Interrupted {
+                    tell(console, input.name, error);
+                    return Came {
+                        count: 0,
+                        has_failed: true,
+                    };
+                }
+            }
         }
     }
     Came {
@@ -98,29 +79,38 @@ pub fn read_some(fd: i32, piece: &mut [u8]) -> Came
     }
 }
 
-// What failed, and why, by errno: no call of C stands between the failure and this.
-pub fn tell(name: &[u8], what: &[u8]) {
-    io::write_all(STDERR_FILENO, name);
-    io::write_all(STDERR_FILENO, b": ");
-    os::fail(what);
+// Text on standard error. What becomes of it changes nothing.
+pub fn say(console: &Console<'_>, text: &[u8]) {
+    let _ = write_text(&mut console.rt.stderr(), text);
 }
 
-// Opens a file to read. Answers a descriptor, or a number below 0, and then the cause is told.
-pub fn open(name: &[u8], path: &[u8]) -> i32 {
-    let fd = os::open_read(path);
-    if fd < 0 {
-        tell(name, path);
+// What failed, and why.
+pub fn tell(console: &Console<'_>, what: &[u8], error: io::Error) {
+    say(console, console.name);
+    say(console, b": ");
+    say(console, what);
+    say(console, b": ");
+    cause::say_cause(console, error);
+    say(console, b"\n");
+}
+
+// Opens a file to read. Where that fails the cause is told.
+pub fn open<'a>(console: &Console<'_>, path: &'a [u8]) -> Option<Input<'a>> {
+    match open_source(console, path) {
+        Ok(source) => Some(Input { source, name: path }),
+        Err(error) => {
+            tell(console, path, error);
+            None
+        }
     }
-    fd
 }
 
-// The status of a text that was printed or not, and the cause where it was not.
-pub fn after_print(name: &[u8], is_written: bool) -> u8
+// The status of a text that was printed or not.
+pub fn after_print(is_written: bool) -> u8
     ensures { (result ≡ printed is_written) × (result ≤ 1) }
 {
     if is_written {
         return 0;
     }
-    tell(name, b"standard output");
     1
 }
