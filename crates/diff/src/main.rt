@@ -1,5 +1,7 @@
 #![tactic(auto)]
 
-fn main() {
-    diff_io::crsf_diff();
+use std::process::ExitCode;
+
+fn main(rt: HostRuntime) -> ExitCode {
+    ExitCode::from(diff_io::crsf_diff(&rt))
 }

@@ -14,8 +14,11 @@ ghost use Rattle.diff_io.specs.State.{Sound, Short, Fills, Feeds, is_over, ended
 
 use base::copy_in;
 use comparing::{Compared, Wants, compare_in};
-use program::{Asked, print, read_some};
+use program::{Asked, Console, Input, print, read_some};
 use stream::LIMIT;
+
+// How many bytes each block has, and the buffer of the text.
+const ROOM: usize = 65536;
 
 // How a comparison ended.
 #[derive(Clone, Copy)]
@@ -62,12 +65,18 @@ fn keep(block: &mut [u8], from: usize, to: usize) -> usize
 }
 
 // One read, behind the unread bytes of a block.
-fn refill(fd: i32, block: &mut [u8], from: usize, to: usize) -> Fed
+fn refill(
+    console: &Console<'_>,
+    input: &mut Input<'_>,
+    block: &mut [u8],
+    from: usize,
+    to: usize,
+) -> Fed
     requires { Short (length block.old) from to }
     ensures { Fills block.old from to block.new result }
 {
     let kept = keep(block, from, to);
-    let came = read_some(fd, &mut block[kept..]);
+    let came = read_some(console, input, &mut block[kept..]);
     Fed {
         from: 0,
         to: kept + came.count,
@@ -77,12 +86,20 @@ fn refill(fd: i32, block: &mut [u8], from: usize, to: usize) -> Fed
 }
 
 // .. where it is asked for.
-fn feed(is_wanted: bool, fd: i32, block: &mut [u8], from: usize, to: usize, ends: bool) -> Fed
+fn feed(
+    console: &Console<'_>,
+    is_wanted: bool,
+    input: &mut Input<'_>,
+    block: &mut [u8],
+    from: usize,
+    to: usize,
+    ends: bool,
+) -> Fed
     requires { (Sound (length block.old) from to) × (is_wanted ≡ true → Short (length block.old) from to) }
     ensures { Feeds is_wanted block.old from to ends block.new result }
 {
     if is_wanted {
-        return refill(fd, block, from, to);
+        return refill(console, input, block, from, to);
     }
     Fed {
         from,
@@ -94,6 +111,7 @@ fn feed(is_wanted: bool, fd: i32, block: &mut [u8], from: usize, to: usize, ends
 
 // One call of the comparison, and a write of what it wrote.
 fn compare_part(
+    console: &Console<'_>,
     left: &[u8],
     left_ends: bool,
     right: &[u8],
@@ -105,7 +123,7 @@ fn compare_part(
     ensures { ((result.compared, out.new) ≡ compared_of left.now left_ends right.now right_ends agree differ out.old) × Within (length left.now) (length right.now) (length out.old) result.compared }
 {
     let compared = compare_in(left, left_ends, right, right_ends, agree, differ, out);
-    let is_written = print(&out[..compared.written]);
+    let is_written = print(console, &out[..compared.written]);
     Part {
         compared,
         is_written,
@@ -169,8 +187,9 @@ fn ended_by(wants: Wants, differ: u64) -> Ended
 
 // Reads both uploads to their ends, each into a block of its own.
 fn compare_blocks(
-    left_fd: i32,
-    right_fd: i32,
+    console: &Console<'_>,
+    left_input: &mut Input<'_>,
+    right_input: &mut Input<'_>,
     left: &mut [u8],
     right: &mut [u8],
     out: &mut [u8],
@@ -189,6 +208,7 @@ fn compare_blocks(
     while 0 < turns {
         turns -= 1;
         let part = compare_part(
+            console,
             &left[l..l_to],
             l_ends,
             &right[r..r_to],
@@ -208,8 +228,9 @@ fn compare_blocks(
             return ended_by(wants, differ);
         }
         let from_left = feed(
+            console,
             is_left(wants),
-            left_fd,
+            left_input,
             left,
             l + compared.left,
             l_to,
@@ -219,8 +240,9 @@ fn compare_blocks(
             return Ended::LeftFailed;
         }
         let from_right = feed(
+            console,
             is_right(wants),
-            right_fd,
+            right_input,
             right,
             r + compared.right,
             r_to,
@@ -239,25 +261,36 @@ fn compare_blocks(
     Ended::Uncounted
 }
 
-// Compares what two descriptors yield.
-fn compare_inputs(left_fd: i32, right_fd: i32) -> Ended {
-    let mut left = io::large_buffer();
-    let mut right = io::large_buffer();
-    let mut out = io::large_buffer();
-    compare_blocks(left_fd, right_fd, &mut left, &mut right, &mut out)
+// Compares what two inputs yield.
+fn compare_inputs(
+    console: &Console<'_>,
+    left_input: &mut Input<'_>,
+    right_input: &mut Input<'_>,
+) -> Ended {
+    let mut left = [0u8; ROOM];
+    let mut right = [0u8; ROOM];
+    let mut out = [0u8; ROOM];
+    compare_blocks(
+        console,
+        left_input,
+        right_input,
+        &mut left,
+        &mut right,
+        &mut out,
+    )
 }
 
 // Compares two files. Answers the status of the program diff.
-pub fn diff_files(left: &[u8], right: &[u8]) -> u8
+pub fn diff_files(rt: &HostRuntime, left: &[u8], right: &[u8]) -> u8
     ensures { result ≤ 2 }
 {
-    command::compare_both(Asked::File, left, Asked::File, right)
+    let console = Console { rt, name: b"diff" };
+    command::compare_both(&console, Asked::File, left, Asked::File, right)
 }
 
 // The program diff. Answers its status: 0 where the uploads have no difference, 1 where they have one, 2 for anything else.
-#[unsafe(no_mangle)]
-pub extern "C" fn crsf_diff() -> u8
+pub fn crsf_diff(rt: &HostRuntime) -> u8
     ensures { result ≤ 2 }
 {
-    command::command()
+    command::command(&Console { rt, name: b"diff" })
 }

@@ -5,92 +5,96 @@
 mod edges;
 
 use diff_io::diff_files;
-use program::print;
+use program::{Console, print};
 
-fn equal() {
-    print(b"equal:\n");
-    diff_files(b"equal.left", b"equal.right");
+fn equal(console: &Console<'_>) {
+    print(console, b"equal:\n");
+    diff_files(console.rt, b"equal.left", b"equal.right");
 }
 
-fn empty() {
-    print(b"empty:\n");
-    diff_files(b"empty.left", b"empty.right");
+fn empty(console: &Console<'_>) {
+    print(console, b"empty:\n");
+    diff_files(console.rt, b"empty.left", b"empty.right");
 }
 
-fn one_empty() {
-    print(b"one_empty:\n");
-    diff_files(b"one_empty.left", b"one_empty.right");
+fn one_empty(console: &Console<'_>) {
+    print(console, b"one_empty:\n");
+    diff_files(console.rt, b"one_empty.left", b"one_empty.right");
 }
 
-fn beginning() {
-    print(b"beginning:\n");
-    diff_files(b"beginning.left", b"beginning.right");
+fn beginning(console: &Console<'_>) {
+    print(console, b"beginning:\n");
+    diff_files(console.rt, b"beginning.left", b"beginning.right");
 }
 
-fn lost() {
-    print(b"lost:\n");
-    diff_files(b"lost.left", b"lost.right");
+fn lost(console: &Console<'_>) {
+    print(console, b"lost:\n");
+    diff_files(console.rt, b"lost.left", b"lost.right");
 }
 
-fn payload() {
-    print(b"payload:\n");
-    diff_files(b"payload.left", b"payload.right");
+fn payload(console: &Console<'_>) {
+    print(console, b"payload:\n");
+    diff_files(console.rt, b"payload.left", b"payload.right");
 }
 
-fn values() {
-    print(b"values:\n");
-    diff_files(b"values.left", b"values.right");
+fn values(console: &Console<'_>) {
+    print(console, b"values:\n");
+    diff_files(console.rt, b"values.left", b"values.right");
 }
 
-fn tails() {
-    print(b"tails:\n");
-    diff_files(b"tails.left", b"tails.right");
+fn tails(console: &Console<'_>) {
+    print(console, b"tails:\n");
+    diff_files(console.rt, b"tails.left", b"tails.right");
 }
 
-fn tail_bytes() {
-    print(b"tail_bytes:\n");
-    diff_files(b"tail_bytes.left", b"tail_bytes.right");
+fn tail_bytes(console: &Console<'_>) {
+    print(console, b"tail_bytes:\n");
+    diff_files(console.rt, b"tail_bytes.left", b"tail_bytes.right");
 }
 
-fn tail_first() {
-    print(b"tail_first:\n");
-    diff_files(b"tail_first.left", b"tail_first.right");
+fn tail_first(console: &Console<'_>) {
+    print(console, b"tail_first:\n");
+    diff_files(console.rt, b"tail_first.left", b"tail_first.right");
 }
 
-fn same_refusals() {
-    print(b"same_refusals:\n");
-    diff_files(b"same_refusals.left", b"same_refusals.right");
+fn same_refusals(console: &Console<'_>) {
+    print(console, b"same_refusals:\n");
+    diff_files(console.rt, b"same_refusals.left", b"same_refusals.right");
 }
 
-fn kinds() {
-    print(b"kinds:\n");
-    diff_files(b"kinds.left", b"kinds.right");
+fn kinds(console: &Console<'_>) {
+    print(console, b"kinds:\n");
+    diff_files(console.rt, b"kinds.left", b"kinds.right");
 }
 
-fn swapped() {
-    print(b"swapped:\n");
-    diff_files(b"swapped.left", b"swapped.right");
+fn swapped(console: &Console<'_>) {
+    print(console, b"swapped:\n");
+    diff_files(console.rt, b"swapped.left", b"swapped.right");
 }
 
-fn blocks() {
-    print(b"blocks:\n");
-    diff_files(b"blocks.left", b"blocks.right");
+fn blocks(console: &Console<'_>) {
+    print(console, b"blocks:\n");
+    diff_files(console.rt, b"blocks.left", b"blocks.right");
 }
 
-fn main() {
-    equal();
-    empty();
-    one_empty();
-    beginning();
-    lost();
-    payload();
-    values();
-    tails();
-    tail_bytes();
-    tail_first();
-    same_refusals();
-    kinds();
-    swapped();
-    blocks();
-    edges::run();
+fn main(rt: HostRuntime) {
+    let console = Console {
+        rt: &rt,
+        name: b"diff_pairs",
+    };
+    equal(&console);
+    empty(&console);
+    one_empty(&console);
+    beginning(&console);
+    lost(&console);
+    payload(&console);
+    values(&console);
+    tails(&console);
+    tail_bytes(&console);
+    tail_first(&console);
+    same_refusals(&console);
+    kinds(&console);
+    swapped(&console);
+    blocks(&console);
+    edges::run(&console);
 }

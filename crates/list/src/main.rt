@@ -1,5 +1,7 @@
 #![tactic(auto)]
 
-fn main() {
-    listing_io::crsf_list();
+use std::process::ExitCode;
+
+fn main(rt: HostRuntime) -> ExitCode {
+    ExitCode::from(listing_io::crsf_list(&rt))
 }

@@ -1,5 +1,7 @@
 #![tactic(auto)]
 
-fn main() {
-    where_io::crsf_where();
+use std::process::ExitCode;
+
+fn main(rt: HostRuntime) -> ExitCode {
+    ExitCode::from(where_io::crsf_where(&rt))
 }

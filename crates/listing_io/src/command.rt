@@ -3,22 +3,22 @@ ghost use Rattle.std.specs.Prelude.{◌≡◌, ◌≤◌};
 ghost use Rattle.listing_io.specs.State.{status_at};
 
 use crate::{Ended, list_input};
-use libc::{STDERR_FILENO, STDIN_FILENO};
-use program::{Asked, after_print, open, print, read_arguments, tell};
+use program::{Asked, Console, Input, Source, after_print, open, print, read_arguments, say};
 
-fn tell_unnumbered(name: &[u8], input: &[u8]) {
-    io::write_all(STDERR_FILENO, name);
-    io::write_all(STDERR_FILENO, b": ");
-    io::write_all(STDERR_FILENO, input);
-    io::write_all(STDERR_FILENO, b": more bytes than there are positions\n");
+fn tell_unnumbered(console: &Console<'_>, input: &[u8]) {
+    say(console, console.name);
+    say(console, b": ");
+    say(console, input);
+    say(console, b": more bytes than there are positions\n");
 }
 
-fn tell_end(ended: Ended, name: &[u8], input: &[u8]) {
+// What is not told yet: a read or a write that fails is told there.
+fn tell_end(console: &Console<'_>, ended: Ended, input: &[u8]) {
     match ended {
         Ended::Listed(_) => {}
-        Ended::ReadFailed => tell(name, input),
-        Ended::WriteFailed => tell(name, b"standard output"),
-        Ended::Unnumbered => tell_unnumbered(name, input),
+        Ended::ReadFailed => {}
+        Ended::WriteFailed => {}
+        Ended::Unnumbered => tell_unnumbered(console, input),
     }
 }
 
@@ -34,27 +34,37 @@ fn status_of(ended: Ended) -> u8
     }
 }
 
-fn list_from(fd: i32, is_numbered: bool, name: &[u8], input: &[u8]) -> u8
+fn list_from(console: &Console<'_>, mut input: Input<'_>, is_numbered: bool) -> u8
     ensures { result ≤ 2 }
 {
-    let ended = list_input(fd, is_numbered);
-    tell_end(ended, name, input);
+    let ended = list_input(console, &mut input, is_numbered);
+    tell_end(console, ended, input.name);
     status_of(ended)
 }
 
-fn list_file(is_numbered: bool, name: &[u8], path: &[u8]) -> u8
+fn list_standard(console: &Console<'_>, is_numbered: bool) -> u8
     ensures { result ≤ 2 }
 {
-    let fd = open(name, path);
-    if fd < 0 {
-        return 1;
-    }
-    list_from(fd, is_numbered, name, path)
+    let input = Input {
+        source: Source::Standard(console.rt.stdin()),
+        name: b"standard input",
+    };
+    list_from(console, input, is_numbered)
 }
 
-fn print_purpose(is_numbered: bool) -> bool {
+fn list_file(console: &Console<'_>, is_numbered: bool, path: &[u8]) -> u8
+    ensures { result ≤ 2 }
+{
+    match open(console, path) {
+        Some(input) => list_from(console, input, is_numbered),
+        None => 1,
+    }
+}
+
+fn print_purpose(console: &Console<'_>, is_numbered: bool) -> bool {
     if is_numbered {
         return print(
+            console,
             b"usage: where [FILE]
 
 Lists the CRSF frames of an upload, or of standard input where FILE is - or is not named, as list does, and says of each
@@ -69,6 +79,7 @@ An upload of 2^64 bytes or more has no such last line, and the status is 1.
         );
     }
     print(
+        console,
         b"usage: list [FILE]
 
 Lists the CRSF frames of an upload, or of standard input where FILE is - or is not named. Each line is written as soon
@@ -82,11 +93,12 @@ as it is known:
     )
 }
 
-fn print_help(is_numbered: bool) -> bool {
-    if !print_purpose(is_numbered) {
+fn print_help(console: &Console<'_>, is_numbered: bool) -> bool {
+    if !print_purpose(console, is_numbered) {
         return false;
     }
     print(
+        console,
         b"
   --help, --version
 
@@ -95,18 +107,18 @@ Status: 0 if everything was read and written, 1 if FILE can't be opened or a rea
     )
 }
 
-// A program: whether it puts positions before its lines, its name, and what it says of its usage and its version.
-pub(crate) fn command(is_numbered: bool, name: &[u8], usage: &[u8], version: &[u8]) -> u8
+// A program: whether it puts positions before its lines, and what it says of its usage and its version.
+pub(crate) fn command(console: &Console<'_>, is_numbered: bool, usage: &[u8], version: &[u8]) -> u8
     ensures { result ≤ 2 }
 {
-    let mut word = io::buffer();
-    let arguments = read_arguments(name, usage, &mut word);
+    let mut word = [0u8; 4096];
+    let arguments = read_arguments(console, usage, &mut word);
     let asked = arguments.asked;
     match asked {
-        Asked::Input => list_from(STDIN_FILENO, is_numbered, name, b"standard input"),
-        Asked::File => list_file(is_numbered, name, &word[..arguments.len]),
-        Asked::Help => after_print(name, print_help(is_numbered)),
-        Asked::Version => after_print(name, print(version)),
+        Asked::Input => list_standard(console, is_numbered),
+        Asked::File => list_file(console, is_numbered, &word[..arguments.len]),
+        Asked::Help => after_print(print_help(console, is_numbered)),
+        Asked::Version => after_print(print(console, version)),
         Asked::Failed => 1,
         Asked::Refused => 2,
     }

@@ -13,8 +13,11 @@ ghost use Rattle.listing_io.specs.State.{Sound, Leaves, is_last, next_after, End
 use lines::line::{LONGEST, LONGEST_POSITION};
 use listing::numbering::Numbering;
 use listing::{Listed, Status, list_in, list_last};
-use program::{print, read_some};
+use program::{Console, Input, print, read_some};
 use stream::LIMIT;
+
+// How many bytes are read, or written, at a time.
+const ROOM: usize = 65536;
 
 // How a listing ended.
 #[derive(Clone, Copy)]
@@ -80,6 +83,7 @@ fn next_after(status: Status) -> Next
 
 // One turn: as many lines as the buffer has room for, and a write of them.
 fn list_part(
+    console: &Console<'_>,
     places: &mut [u8],
     out: &mut [u8],
     start: usize,
@@ -91,12 +95,13 @@ fn list_part(
     ensures { Lists places.old start end numbering input.now out.old places.new out.new result.listed }
 {
     let listed = list_in(places, start, end, numbering, input, out);
-    let is_written = print(&out[..listed.written]);
+    let is_written = print(console, &out[..listed.written]);
     Part { listed, is_written }
 }
 
 // All lines of a piece.
 fn list_piece(
+    console: &Console<'_>,
     places: &mut [u8],
     out: &mut [u8],
     start: usize,
@@ -114,7 +119,7 @@ fn list_piece(
     let mut turns = u64::MAX;
     while 0 < turns {
         turns -= 1;
-        let part = list_part(places, out, from, to, number, &piece[taken..]);
+        let part = list_part(console, places, out, from, to, number, &piece[taken..]);
         let listed = part.listed;
         from = listed.start;
         to = listed.end;
@@ -148,7 +153,8 @@ fn list_piece(
 
 // One read, and the lines of what came.
 fn list_read(
-    fd: i32,
+    console: &Console<'_>,
+    input: &mut Input<'_>,
     places: &mut [u8],
     out: &mut [u8],
     piece: &mut [u8],
@@ -159,7 +165,7 @@ fn list_read(
     requires { Sound (length places.old) start end }
     ensures { Sound (length places.old) result.start result.end }
 {
-    let came = read_some(fd, piece);
+    let came = read_some(console, input, piece);
     if came.has_failed {
         return State {
             start,
@@ -176,7 +182,15 @@ fn list_read(
             next: Next::End,
         };
     }
-    list_piece(places, out, start, end, numbering, &piece[..came.count])
+    list_piece(
+        console,
+        places,
+        out,
+        start,
+        end,
+        numbering,
+        &piece[..came.count],
+    )
 }
 
 fn is_read(next: Next) -> bool {
@@ -191,7 +205,8 @@ fn is_read(next: Next) -> bool {
 
 // Reads to the end of the input.
 fn list_reads(
-    fd: i32,
+    console: &Console<'_>,
+    input: &mut Input<'_>,
     places: &mut [u8],
     out: &mut [u8],
     piece: &mut [u8],
@@ -206,7 +221,7 @@ fn list_reads(
     let mut turns = u64::MAX;
     while 0 < turns {
         turns -= 1;
-        let state = list_read(fd, places, out, piece, start, end, number);
+        let state = list_read(console, input, places, out, piece, start, end, number);
         let next = state.next;
         if !is_read(next) {
             return state;
@@ -223,21 +238,21 @@ fn list_reads(
     }
 }
 
-fn write_last(numbering: Numbering, held: u8) -> bool {
+fn write_last(console: &Console<'_>, numbering: Numbering, held: u8) -> bool {
     let mut line = [0u8; LONGEST_POSITION + LONGEST];
     let n = list_last(numbering, held, &mut line);
-    print(&line[..n])
+    print(console, &line[..n])
 }
 
 // The last line, where the input has ended.
-fn list_end(next: Next, numbering: Numbering, held: u8) -> Ended
+fn list_end(console: &Console<'_>, next: Next, numbering: Numbering, held: u8) -> Ended
     requires { held < limit }
     ensures { Ends result }
 {
     match next {
         Next::Read => Ended::ReadFailed,
         Next::End => {
-            if write_last(numbering, held) {
+            if write_last(console, numbering, held) {
                 Ended::Listed(held)
             } else {
                 Ended::WriteFailed
@@ -259,41 +274,40 @@ fn first_number(is_numbered: bool) -> Numbering
     Numbering::Off
 }
 
-// Lists what the descriptor yields.
-fn list_input(fd: i32, is_numbered: bool) -> Ended
+// Lists what the input yields.
+fn list_input(console: &Console<'_>, input: &mut Input<'_>, is_numbered: bool) -> Ended
     ensures { Ends result }
 {
     let mut places = [0u8; LIMIT];
-    let mut out = io::large_buffer();
-    let mut piece = io::large_buffer();
+    let mut out = [0u8; ROOM];
+    let mut piece = [0u8; ROOM];
     let numbering = first_number(is_numbered);
-    let state = list_reads(fd, &mut places, &mut out, &mut piece, numbering);
+    let state = list_reads(console, input, &mut places, &mut out, &mut piece, numbering);
     let next = state.next;
     let number = state.numbering;
-    list_end(next, number, (state.end - state.start) as u8)
+    list_end(console, next, number, (state.end - state.start) as u8)
 }
 
 // The program list. Answers its status: 0 where everything was read and written, 1 where a file, a read or a write failed, 2 for bad usage.
-#[unsafe(no_mangle)]
-pub extern "C" fn crsf_list() -> u8
+pub fn crsf_list(rt: &HostRuntime) -> u8
     ensures { result ≤ 2 }
 {
     command::command(
+        &Console { rt, name: b"list" },
         false,
-        b"list",
         b"usage: list [FILE]; list --help says more\n",
         b"list 0.8.0\n",
     )
 }
 
 // The program where: the same, with the position before each line. Its status is 1 too where the input has more bytes than there are positions. Its
-// entry is in crate where_io: in an archive of one program the loop is compiled for that alone, and list is as fast as without positions.
-pub fn list_where() -> u8
+// entry is in crate where_io: in a program of its own the loop is compiled for that alone, and list is as fast as without positions.
+pub fn list_where(rt: &HostRuntime) -> u8
     ensures { result ≤ 2 }
 {
     command::command(
+        &Console { rt, name: b"where" },
         true,
-        b"where",
         b"usage: where [FILE]; where --help says more\n",
         b"where 0.8.0\n",
     )

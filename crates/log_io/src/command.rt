@@ -3,17 +3,8 @@ ghost use Rattle.std.specs.Prelude.{◌≡◌, ◌≤◌};
 ghost use Rattle.log_io.specs.State.{status_of, status_at};
 
 use crate::{Ended, list_input};
-use libc::STDIN_FILENO;
 use log_reader::Ending;
-use program::{Asked, after_print, open, print, read_arguments, tell};
-
-fn tell_end(ended: Ended, name: &[u8]) {
-    match ended {
-        Ended::Listed(_) => {}
-        Ended::ReadFailed => tell(b"log", name),
-        Ended::WriteFailed => tell(b"log", b"standard output"),
-    }
-}
+use program::{Asked, Console, Input, Source, after_print, open, print, read_arguments};
 
 fn status_of(ending: Ending) -> u8
     ensures { (result ≡ status_of ending) × (result ≤ 1) }
@@ -34,26 +25,35 @@ fn status_at(ended: Ended) -> u8
     }
 }
 
-fn list_from(fd: i32, name: &[u8]) -> u8
+fn list_from(console: &Console<'_>, mut input: Input<'_>) -> u8
     ensures { result ≤ 2 }
 {
-    let ended = list_input(fd);
-    tell_end(ended, name);
+    let ended = list_input(console, &mut input);
     status_at(ended)
 }
 
-fn list_file(path: &[u8]) -> u8
+fn list_standard(console: &Console<'_>) -> u8
     ensures { result ≤ 2 }
 {
-    let fd = open(b"log", path);
-    if fd < 0 {
-        return 1;
-    }
-    list_from(fd, path)
+    let input = Input {
+        source: Source::Standard(console.rt.stdin()),
+        name: b"standard input",
+    };
+    list_from(console, input)
 }
 
-fn print_help() -> bool {
+fn list_file(console: &Console<'_>, path: &[u8]) -> u8
+    ensures { result ≤ 2 }
+{
+    match open(console, path) {
+        Some(input) => list_from(console, input),
+        None => 1,
+    }
+}
+
+fn print_help(console: &Console<'_>) -> bool {
     print(
+        console,
         b"usage: log [FILE]
 
 Lists the entries of a kit log: of FILE, or of standard input where FILE is - or is not named. Each line is written as soon
@@ -71,21 +71,21 @@ Status: 0 if the log is whole and its lines are written, 1 if it is refused, FIL
     )
 }
 
-pub(crate) fn command() -> u8
+pub(crate) fn command(console: &Console<'_>) -> u8
     ensures { result ≤ 2 }
 {
-    let mut word = io::buffer();
+    let mut word = [0u8; 4096];
     let arguments = read_arguments(
-        b"log",
+        console,
         b"usage: log [FILE]; log --help says more\n",
         &mut word,
     );
     let asked = arguments.asked;
     match asked {
-        Asked::Input => list_from(STDIN_FILENO, b"standard input"),
-        Asked::File => list_file(&word[..arguments.len]),
-        Asked::Help => after_print(b"log", print_help()),
-        Asked::Version => after_print(b"log", print(b"log 0.8.0\n")),
+        Asked::Input => list_standard(console),
+        Asked::File => list_file(console, &word[..arguments.len]),
+        Asked::Help => after_print(print_help(console)),
+        Asked::Version => after_print(print(console, b"log 0.8.0\n")),
         Asked::Failed => 1,
         Asked::Refused => 2,
     }

@@ -14,11 +14,13 @@ ghost use Rattle.log_io.specs.State.{next_by, next_after, Ready, Leaves, Ends};
 
 use log_lines::{Status, list_part, put_last};
 use log_reader::{Ending, Reader, end, reset};
-use program::{print, read_some};
+use program::{Console, Input, print, read_some};
 use stream::LIMIT;
 
-// How many bytes are read at a time: the buffer of 65,536 has room for the lines of these.
+// How many bytes are read at a time, and the buffer that has room for the lines of these.
 const PIECE: usize = 2048;
+
+const ROOM: usize = 65536;
 
 // The longest last line.
 const LAST: usize = 11;
@@ -70,12 +72,18 @@ fn next_after(is_written: bool, status: Status) -> Next
 }
 
 // All lines of a piece, and a write of them.
-fn list_piece(places: &mut [u8], out: &mut [u8], reader: Reader, piece: &[u8]) -> State
+fn list_piece(
+    console: &Console<'_>,
+    places: &mut [u8],
+    out: &mut [u8],
+    reader: Reader,
+    piece: &[u8],
+) -> State
     requires { Ready places.old reader (length piece.now) (length out.old) }
     ensures { Leaves places.old reader piece.now places.new result }
 {
     let listed = list_part(places, reader, piece, out);
-    let is_written = print(&out[..listed.written]);
+    let is_written = print(console, &out[..listed.written]);
     let status = listed.status;
     let next = next_after(is_written, status);
     let reader = listed.reader;
@@ -83,11 +91,18 @@ fn list_piece(places: &mut [u8], out: &mut [u8], reader: Reader, piece: &[u8]) -
 }
 
 // One read, and the lines of what came.
-fn list_read(fd: i32, places: &mut [u8], out: &mut [u8], piece: &mut [u8], reader: Reader) -> State
+fn list_read(
+    console: &Console<'_>,
+    input: &mut Input<'_>,
+    places: &mut [u8],
+    out: &mut [u8],
+    piece: &mut [u8],
+    reader: Reader,
+) -> State
     requires { Ready places.old reader (length piece.old) (length out.old) }
     ensures { is_state places.new result.reader ≡ true }
 {
-    let came = read_some(fd, piece);
+    let came = read_some(console, input, piece);
     if came.has_failed {
         return State {
             reader,
@@ -100,7 +115,7 @@ fn list_read(fd: i32, places: &mut [u8], out: &mut [u8], piece: &mut [u8], reade
             next: Next::End,
         };
     }
-    list_piece(places, out, reader, &piece[..came.count])
+    list_piece(console, places, out, reader, &piece[..came.count])
 }
 
 fn is_read(next: Next) -> bool {
@@ -113,7 +128,13 @@ fn is_read(next: Next) -> bool {
 }
 
 // Reads to the end of the input, or to a refusal. The loop counts its turns down, from a number that no run uses up.
-fn list_reads(fd: i32, places: &mut [u8], out: &mut [u8], piece: &mut [u8]) -> State
+fn list_reads(
+    console: &Console<'_>,
+    input: &mut Input<'_>,
+    places: &mut [u8],
+    out: &mut [u8],
+    piece: &mut [u8],
+) -> State
     requires { (limit ≤ length places.old) × (longest_entry * length piece.old ≤ length out.old) }
     ensures { is_state places.new result.reader ≡ true }
 {
@@ -121,7 +142,7 @@ fn list_reads(fd: i32, places: &mut [u8], out: &mut [u8], piece: &mut [u8]) -> S
     let mut turns = u64::MAX;
     while 0 < turns {
         turns -= 1;
-        let state = list_read(fd, places, out, piece, reader);
+        let state = list_read(console, input, places, out, piece, reader);
         let next = state.next;
         if !is_read(next) {
             return state;
@@ -134,53 +155,52 @@ fn list_reads(fd: i32, places: &mut [u8], out: &mut [u8], piece: &mut [u8]) -> S
     }
 }
 
-fn write_last(ending: Ending) -> bool {
+fn write_last(console: &Console<'_>, ending: Ending) -> bool {
     let mut line = [0u8; LAST];
     let n = put_last(ending, &mut line);
-    print(&line[..n])
+    print(console, &line[..n])
 }
 
 // The last line.
-fn end_log(places: &[u8], reader: Reader) -> Ended
+fn end_log(console: &Console<'_>, places: &[u8], reader: Reader) -> Ended
     requires { is_state places.now reader ≡ true }
     ensures { Ends (state_of places.now reader) result }
 {
     let closed = end(places, reader);
     let ending = closed.ending;
-    if write_last(ending) {
+    if write_last(console, ending) {
         return Ended::Listed(ending);
     }
     Ended::WriteFailed
 }
 
-fn end_listing(places: &[u8], reader: Reader, next: Next) -> Ended
+fn end_listing(console: &Console<'_>, places: &[u8], reader: Reader, next: Next) -> Ended
     requires { is_state places.now reader ≡ true }
     ensures { Ends (state_of places.now reader) result }
 {
     match next {
         Next::Read => Ended::ReadFailed,
-        Next::End => end_log(places, reader),
+        Next::End => end_log(console, places, reader),
         Next::ReadFailed => Ended::ReadFailed,
         Next::WriteFailed => Ended::WriteFailed,
     }
 }
 
-// Lists what the descriptor yields.
-fn list_input(fd: i32) -> Ended {
+// Lists what the input yields.
+fn list_input(console: &Console<'_>, input: &mut Input<'_>) -> Ended {
     let mut places = [0u8; LIMIT];
-    let mut out = io::large_buffer();
+    let mut out = [0u8; ROOM];
     let mut piece = [0u8; PIECE];
-    let state = list_reads(fd, &mut places, &mut out, &mut piece);
+    let state = list_reads(console, input, &mut places, &mut out, &mut piece);
     let reader = state.reader;
     let next = state.next;
-    end_listing(&places, reader, next)
+    end_listing(console, &places, reader, next)
 }
 
 // The program. Answers its status: 0 where a log was read to its end and written, 1 where it was refused or a file, a read or a write failed, 2 for bad
 // usage.
-#[unsafe(no_mangle)]
-pub extern "C" fn crsf_log() -> u8
+pub fn crsf_log(rt: &HostRuntime) -> u8
     ensures { result ≤ 2 }
 {
-    command::command()
+    command::command(&Console { rt, name: b"log" })
 }

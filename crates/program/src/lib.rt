@@ -13,7 +13,7 @@ ghost use Rattle.program.specs.Counts.{IsPrefixLen};
 ghost use Rattle.std.specs.Io.KnownBytes.{Appends};
 ghost use Rattle.program.specs.Answers.{printed};
 
-pub use argument::{Arguments, Asked, asked_by, read_arguments};
+pub use argument::{Arguments, Asked, asked_by, is_given, read_arguments};
 pub use source::{Input, Source, open_source};
 use std::io;
 use std::io::{ErrorKind, Read, Write};

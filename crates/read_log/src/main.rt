@@ -1,5 +1,7 @@
 #![tactic(auto)]
 
-fn main() {
-    log_io::crsf_log();
+use std::process::ExitCode;
+
+fn main(rt: HostRuntime) -> ExitCode {
+    ExitCode::from(log_io::crsf_log(&rt))
 }

@@ -4,9 +4,8 @@
 ghost use Rattle.std.specs.Prelude.{◌≤◌};
 
 // Answers its status, as crsf_list does.
-#[unsafe(no_mangle)]
-pub extern "C" fn crsf_where() -> u8
+pub fn crsf_where(rt: &HostRuntime) -> u8
     ensures { result ≤ 2 }
 {
-    listing_io::list_where()
+    listing_io::list_where(rt)
 }
