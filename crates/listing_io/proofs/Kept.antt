@@ -14,6 +14,7 @@ use Rattle.base.proofs.Tests.{by_test}
 use Rattle.reading.specs.Reading.{Reading, reading}
 use Rattle.stream.specs.Places.{held_in}
 use Rattle.stream.specs.Step.{is_span}
+use Rattle.stream.proofs.Loop.{unread_is}
 use Rattle.refusals.specs.declared.Refusal.TheVariants.{PositionRange}
 use Rattle.listing.specs.Numbering.{past, is_countable}
 use Rattle.listing.specs.Listing.{Listing, list_of}
@@ -50,6 +51,12 @@ begin {before} {start = start} {end} n piece s =
       text = [];
       carried = text_offer piece (text_begin (length before) n (held_in before start end));
     }
+
+-- what is lent of a piece is all of it that is not taken
+pub lent : {places out places' out' : List ℕ} {from to : ℕ} {now : Numbering} {r : Listed} (piece : List ℕ) (taken : ℕ)
+    → Lists places from to now (take (length piece - taken) (drop taken piece)) out places' out' r → Lists places from to now (drop taken piece) out places' out' r
+lent {places} {out} {places'} {out'} {from} {to} {now} {r} piece taken =
+    subst (λ (l : List ℕ). Lists places from to now l out places' out' r) (unread_is piece taken)
 
 -- another read does not come next: nothing is said of the held bytes
 abbrev reads : Next → Bool
