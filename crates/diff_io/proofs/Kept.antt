@@ -8,6 +8,7 @@ use Prim.Native.Nat.{ℕ, ◌+◌, ◌-◌, ◌≤◌}
 use native.Mathlib.Omega.{arith}
 use lib.ListN.{length}
 use Rattle.base.specs.Parts.{part}
+use Rattle.base.proofs.Parts.{length_part}
 use Rattle.comparing.specs.Call.{is_whole, wants_left, wants_right, compared_of}
 use Rattle.comparing.specs.Run.{Upload, fresh, Run, begin}
 use Rattle.comparing.specs.declared.Compared.{Compared}
@@ -53,6 +54,22 @@ not_whole Right e = refl
 not_whole Room e = refl
 not_whole Nothing e = e
 not_whole (Refused r) e = refl
+
+module _ {left₀ right₀ out₀ left right out : List ℕ} {l l-to : ℕ} {l-ends : Bool} {r r-to : ℕ} {r-ends : Bool} {n d : ℕ}
+    (kept : Kept left₀ right₀ out₀ left right out l l-to l-ends r r-to r-ends n d) where
+  -- how many bytes of each upload are unread
+  pub left_long : length (part left l (l-to - l)) ≡ l-to - l
+  left_long = length_part left l (l-to - l) (omega (arith, kept.left_sound.ordered, kept.left_sound.inside))
+
+  pub right_long : length (part right r (r-to - r)) ≡ r-to - r
+  right_long = length_part right r (r-to - r) (omega (arith, kept.right_sound.ordered, kept.right_sound.inside))
+
+  -- what a call is done with lies before their ends
+  pub left_going : {k : ℕ} → k ≤ length (part left l (l-to - l)) → Sound (length left) (l + k) l-to
+  left_going inside = record { ordered = omega (arith, kept.left_sound.ordered, left_long, inside); inside = kept.left_sound.inside }
+
+  pub right_going : {k : ℕ} → k ≤ length (part right r (r-to - r)) → Sound (length right) (r + k) r-to
+  right_going inside = record { ordered = omega (arith, kept.right_sound.ordered, right_long, inside); inside = kept.right_sound.inside }
 
 module _ {left₀ right₀ out₀ left right out : List ℕ} {l l-to : ℕ} {l-ends : Bool} {r r-to : ℕ} {r-ends : Bool} {n d : ℕ}
     (kept : Kept left₀ right₀ out₀ left right out l l-to l-ends r r-to r-ends n d) {outAfter : List ℕ} {c : Compared}
