@@ -1,14 +1,12 @@
 -- `diff_io::compare_blocks` meets its contract. Assumes nothing.
-use mathlib.Core.Path.{◌≡◌, sym, ◌∙◌, subst}
+use mathlib.Core.Path.{sym, ◌∙◌, subst}
 use mathlib.Core.Bool.{Bool}
 use Prim.Native.Nat.{◌+◌, ◌-◌}
 use native.Mathlib.Omega.{arith}
-use lib.ListN.{length}
 use Rattle.base.specs.Parts.{part}
-use Rattle.base.proofs.Parts.{length_part}
-use Rattle.comparing.proofs.Progress.{Asks, call_asks}
-use Rattle.diff_io.specs.State.{Sound, Feeds}
-use Rattle.diff_io.proofs.Kept.{Kept, begun, again, left_long, right_long, left_going, right_going}
+use Rattle.comparing.proofs.Progress.{call_asks}
+use Rattle.diff_io.specs.State.{Feeds}
+use Rattle.diff_io.proofs.Kept.{begun, again, left_long, right_long, left_going, right_going}
 use Rattle.diff_io.proofs.Asked.{short_left, short_right}
 use Rattle.diff_io.proofs.compare_blocks.Goals as goal
 

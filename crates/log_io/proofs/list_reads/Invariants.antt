@@ -1,5 +1,5 @@
 -- The reader is a state, and there is room for the lines of any piece. The measure is the number of turns that are left. Assumes nothing.
-use Rattle.std.proofs.Common.{◌≡◌, length}
+use Rattle.std.proofs.Common.{length}
 use Rattle.log_io.specs.State.{Ready}
 use Rattle.log_io.proofs.list_reads.Given as goal
 
