@@ -7,7 +7,6 @@
 ghost use Rattle.std.specs.Prelude.{◌≤◌};
 ghost use Rattle.parser.specs.Parser.{Nexts};
 
-use libc::STDOUT_FILENO;
 use numbered::Answered;
 use parser::{CrsfParser, Stepped, held_len, next_raw_packet, position, reset};
 use refusals::{Row, row_of};
@@ -22,6 +21,9 @@ enum Way {
     Lent,
     Saved,
 }
+
+// The standard output.
+const STDOUT_FILENO: i32 = 1;
 
 // How long a saved form is at most.
 const LONGEST: usize = 75;

@@ -11,7 +11,6 @@ mod written;
 
 use base::{byte_at, part_of, wide};
 use feed::put_first;
-use libc::STDIN_FILENO;
 use show::text;
 
 // The item at a place, and how many bytes the log of the entries so far has.
@@ -52,7 +51,7 @@ fn items(all: &[u8], log: &mut [u8]) -> usize {
 
 fn main() {
     let mut buf = io::large_buffer();
-    let n = io::read_full(STDIN_FILENO, &mut buf);
+    let n = io::read_full(0, &mut buf);
     let mut log = [0u8; 512];
     let size = items(&buf[..n], &mut log);
     cuts::line(part_of(&log, 0, size));

@@ -1,5 +1,7 @@
 // Text, numbers and bytes on the standard output.
-use libc::STDOUT_FILENO;
+
+// The standard output.
+const STDOUT_FILENO: i32 = 1;
 
 pub fn text(words: &[u8]) {
     io::write_all(STDOUT_FILENO, words);

@@ -14,7 +14,11 @@ ghost use Rattle.std.specs.Prelude.{◌<◌};
 
 use base::byte_at;
 use case::{Expected, bytes_of, case_at};
-use libc::{STDIN_FILENO, STDOUT_FILENO};
+
+// The standard input and output.
+const STDIN_FILENO: i32 = 0;
+
+const STDOUT_FILENO: i32 = 1;
 
 // Whether the case agrees, by what is expected and its three parts.
 fn is_answer(kind: u8, e: Expected, a: &[u8], b: &[u8], c: &[u8], state: &mut [u8]) -> bool {
@@ -76,7 +80,7 @@ fn count(counts: &mut [u64; 8], i: usize)
     requires { i < 8 }
 {
     let before = counts[i];
-    counts[i] = std::num::wrapping_add_u64(before, 1);
+    counts[i] = before.wrapping_add(1);
 }
 
 // A page of cases, which a kind of 0 ends.

@@ -1,7 +1,6 @@
 // Batteries at both sides of the largest capacity that 24 bits hold, with an id and without: payloads and frames, to an address and to a byte that is
 // none, into buffers that they fill and into those with a place less; and frames into buffers with and without room for head and check byte.
-use crate::show::{BEFORE, left, named};
-use libc::STDOUT_FILENO;
+use crate::show::{BEFORE, STDOUT_FILENO, left, named};
 use records::battery::Battery;
 
 fn titled(record: Battery) {

@@ -1,9 +1,8 @@
 // Bursts of channels: none, one, eight and nine sets, into buffers that they fill, into those with a place less and into longer ones, to an address and
 // to a byte that is none; with a channel of 2048 in the first set, in the last that is counted and in one beyond; and numbers that are too few, enough and
 // more.
-use crate::show::{BEFORE, named, spelled};
+use crate::show::{BEFORE, STDOUT_FILENO, named, spelled};
 use bursts::{write_rc_channels_burst, write_rc_channels_burst_values};
-use libc::STDOUT_FILENO;
 use writing::Written;
 
 fn to(dest: u8, room: usize) {

@@ -1,7 +1,6 @@
 // The published vectors of the check byte, and beside what each gave what was expected: the catalogue's check value of CRC-8/DVB-S2, each frame in the doc
 // comments of the Rust's src/parser.rs, and a frame with a wrong check byte (RULES 4).
-use crate::show::{spelled, wide};
-use libc::STDOUT_FILENO;
+use crate::show::{STDOUT_FILENO, spelled, wide};
 
 // The remainder of `bytes`, beside the one that the catalogue names.
 fn value(name: &[u8], bytes: &[u8], expected: u8) {

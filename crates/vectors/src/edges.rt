@@ -1,8 +1,7 @@
 // Both sides of each edge of the rules, and that 0 reads as -10000 dm. What the library gives is written line by line.
-use crate::show::{payload, spelled};
+use crate::show::{STDOUT_FILENO, payload, spelled};
 use altitude::Decimetres;
 use channels::RcChannelsPacked;
-use libc::STDOUT_FILENO;
 use lines::line::put_held;
 use listing::list_in;
 use listing::numbering::Numbering;

@@ -1,5 +1,5 @@
 // What the lists answer for every byte, a line for each: the byte, whether it is an address, and the header of the packet type.
-use libc::STDOUT_FILENO;
+use crate::show::STDOUT_FILENO;
 
 fn kind(byte: u8) {
     match packets::header_of(byte) {

@@ -1,8 +1,7 @@
 // Positions: the worked cases; saved forms at both sides of each edge, older ones among them, one cut at each place and one with a byte more; calls at the
 // last positions of a stream, on pieces that just can be numbered and that just can't; a state that holds a byte beyond the last position; the longest form.
-use crate::show::{BEFORE, left, named};
+use crate::show::{BEFORE, STDOUT_FILENO, left, named};
 use crate::show_state::{at, brief, part, refused, state};
-use libc::STDOUT_FILENO;
 use numbered::Answered;
 use parser::{CrsfParser, held_len, next_raw_packet, position, reset};
 use saved::form::Restored;

@@ -1,8 +1,7 @@
 // Series at both sides of each edge: payloads that end in an unfinished value, and payloads with the least and the most that is read; counts of values
 // that are made, and that are written into buffers with and without room; then values at the edges of their type.
-use crate::show::{BEFORE, left, named, payload};
+use crate::show::{BEFORE, STDOUT_FILENO, left, named, payload};
 use layout::ReadAnswer;
-use libc::STDOUT_FILENO;
 use series::rpm::Rpm;
 use series::temp::Temp;
 use series::voltages::Voltages;

@@ -1,6 +1,8 @@
 // Bytes on the standard output.
-use libc::STDOUT_FILENO;
 use writing::Written;
+
+// The standard output.
+pub const STDOUT_FILENO: i32 = 1;
 
 pub fn heading(text: &[u8]) {
     io::write_all(STDOUT_FILENO, b"-- ");

@@ -1,6 +1,5 @@
 // A parser's state and a refusal, as they are written.
-use crate::show::{named, spelled};
-use libc::STDOUT_FILENO;
+use crate::show::{STDOUT_FILENO, named, spelled};
 use parser::CrsfParser;
 use refusals::Refusal;
 
