@@ -76,8 +76,7 @@ fn print_answer<'a>(answered: Answered, piece: &'a [u8], places: &'a [u8]) {
     print_reply(reply, piece, places);
 }
 
-// One call of a parser that is lent and handed back. No lent struct is among its own parameters, so its callers are proved by the prover and
-// not by hand.
+// One call of a parser that is lent and handed back.
 fn lend(p: CrsfParser, input: &[u8]) -> Stepped
     ensures { Nexts p input.now result }
 {
@@ -131,6 +130,7 @@ fn kept(p: CrsfParser, way: Way) -> CrsfParser {
 }
 
 // Calls on one piece, until the parser asks for more.
+#[tactic(auto, using(parser::proofs::Held::takes_within))]
 fn feed(before: CrsfParser, way: Way, piece: &[u8]) -> CrsfParser {
     let mut p = before;
     let mut at = 0;
