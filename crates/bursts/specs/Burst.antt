@@ -1,7 +1,7 @@
 -- A burst (RULES 17): the frames of up to eight sets of sixteen channels, one after another, all or nothing.
 -- Assumes nothing.
 use Rattle.std.specs.Prelude.{ℕ, zero, suc, ◌*◌, Bool, List, [], ◌∷◌, map, ltb, length, get_or, take, drop}
-use Rattle.base.specs.Choice.{if◌then◌else◌}
+use Rattle.base.specs.Choice.{when◌then◌else◌}
 use Rattle.base.specs.First.{first_where}
 use Rattle.packets.specs.Listed.{listed}
 use Rattle.reading.specs.Frame.{frame, joined}
@@ -33,14 +33,14 @@ first_bad sets = first_where bad sets
 -- the first channel that is too large is refused, with its set and its place there; else the frames are joined
 unfoldable pub sets_image : ℕ → List (List ℕ) → Image
 sets_image dest sets =
-    if ltb (first_bad sets) (length sets)
+    when ltb (first_bad sets) (length sets)
     then refused (SetChannelRange (first_bad sets) (first_above (get_or sets (first_bad sets) [])))
     else bytes (joined (set_frames dest sets))
 
 -- the address is tested first, then the count. Of the sets those that are counted are all that is looked at
 unfoldable pub burst_image : ℕ → List (List ℕ) → ℕ → Image
 burst_image dest sets count =
-    if listed dest then (if ltb most_sets count then refused InvalidPayloadLength else sets_image dest (take count sets)) else refused BadAddress
+    when listed dest then (when ltb most_sets count then refused InvalidPayloadLength else sets_image dest (take count sets)) else refused BadAddress
 
 -- ---- The channels of a burst as one list of numbers, set behind set
 
@@ -52,7 +52,7 @@ sixteens (suc n) numbers = take channels_count numbers ∷ sixteens n (drop chan
 -- too few numbers for them are refused as too many sets are; more are not looked at
 unfoldable pub values_image : ℕ → List ℕ → ℕ → Image
 values_image dest numbers count =
-    if listed dest then
-    (if ltb most_sets count then refused InvalidPayloadLength else
-    if ltb (length numbers) (count * channels_count) then refused InvalidPayloadLength else sets_image dest (sixteens count numbers))
+    when listed dest then
+    (when ltb most_sets count then refused InvalidPayloadLength else
+    when ltb (length numbers) (count * channels_count) then refused InvalidPayloadLength else sets_image dest (sixteens count numbers))
     else refused BadAddress

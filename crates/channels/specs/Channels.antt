@@ -1,7 +1,7 @@
 -- RC channels (RULES 10): sixteen channels of 11 bits in 22 bytes. Channel i is bits 11 i to 11 i + 10 of the payload's little-endian number.
 -- Assumes nothing.
 use Rattle.std.specs.Prelude.{List, map, ℕ, ◌%◌, ◌^◌, ltb, length, take, replicate}
-use Rattle.base.specs.Choice.{if◌then◌else◌}
+use Rattle.base.specs.Choice.{when◌then◌else◌}
 use Rattle.base.specs.First.{first_where}
 use Rattle.refusals.specs.declared.Refusal.TheVariants.{InvalidPayloadLength, ChannelRange}
 use Rattle.writing.specs.Writing.{Image, bytes, refused}
@@ -37,7 +37,7 @@ low_bits channels = map (λ c. c % 2 ^ 11) channels
 -- reading: what is said, as a row, and the channels beside it. A shorter payload is refused, with every channel 0; bytes behind are ignored
 unfoldable pub channels_read : List ℕ → List ℕ × RcChannelsPacked
 channels_read payload =
-    if ltb (length payload) channels_size
+    when ltb (length payload) channels_size
     then (read_row (Refused InvalidPayloadLength), record { 0 = replicate channels_count 0 })
     else (read_row Record, record { 0 = channels_of (take channels_size payload) })
 
@@ -47,4 +47,4 @@ first_above channels = first_where (ltb greatest) channels
 
 -- what there is to write: the first channel that is too large is refused, with its place; else the bytes
 unfoldable pub channels_image : RcChannelsPacked → Image
-channels_image c = if ltb (first_above c.0) channels_count then refused (ChannelRange (first_above c.0)) else bytes (channel_bytes c.0)
+channels_image c = when ltb (first_above c.0) channels_count then refused (ChannelRange (first_above c.0)) else bytes (channel_bytes c.0)

@@ -8,7 +8,7 @@ use native.Mathlib.Omega.{arith}
 use lib.Dec.{eqb}
 use lib.ListN.{get_or, take}
 use borrow.Author.Tests.{eqb-true, eq-eqb, ne_eqb}
-use Rattle.base.specs.Choice.{if◌then◌else◌}
+use Rattle.base.specs.Choice.{when◌then◌else◌}
 use Rattle.base.specs.Same.{same_bytes}
 use Rattle.refusals.specs.Row.{struct_of}
 use Rattle.reading.specs.Answer.{InvalidSync, InvalidPacketLength, InvalidCrc, row, calculated, carried, drops, candidate}
@@ -64,7 +64,7 @@ bytes_of (says (reading.Frame c)) = c
 abbrev alike : First → First → Bool
 alike f g =
     let x = struct_of (head_first f) in
-    same_row x (struct_of (head_first g)) && (if eqb x.number 0 then same_bytes (bytes_of f) (bytes_of g) else true)
+    same_row x (struct_of (head_first g)) && (when eqb x.number 0 then same_bytes (bytes_of f) (bytes_of g) else true)
 
 one_value : (b : Bool) → b && true ≡ (b && true) && true
 one_value true = refl
@@ -130,10 +130,10 @@ module _ {left right : List ℕ} {a b : Next} (p : Finds left a) (q : Finds righ
   head_right : head_of b.reply ≡ head_first g
   head_right = head_meant b.reply right ∙ ap head_said q.said ∙ head_said_lem g
 
-  agree_is : agree ≡ (same && (if eqb (get_or (head_of a.reply) 0 0) 0 then same_bytes (bytes_of f) (bytes_of g) else true))
+  agree_is : agree ≡ (same && (when eqb (get_or (head_of a.reply) 0 0) 0 then same_bytes (bytes_of f) (bytes_of g) else true))
   agree_is =
       rows_alike f g
-      ∙ ap₂ (λ (x y : List ℕ). same_row (struct_of x) (struct_of y) && (if eqb (get_or x 0 0) 0 then same_bytes (bytes_of f) (bytes_of g) else true))
+      ∙ ap₂ (λ (x y : List ℕ). same_row (struct_of x) (struct_of y) && (when eqb (get_or x 0 0) 0 then same_bytes (bytes_of f) (bytes_of g) else true))
       (sym head_left) (sym head_right)
 
   pub other_heads : same ≡ false → false ≡ agree

@@ -2,7 +2,7 @@
 -- left of both uploads.
 -- Assumes nothing.
 use Rattle.std.specs.Prelude.{ℕ, zero, suc, ◌+◌, ◌-◌, ◌≤◌, Bool, true, false, ◌&&◌, not, List, [], ◌++◌, ltb, length, drop}
-use Rattle.base.specs.Choice.{if◌then◌else◌}
+use Rattle.base.specs.Choice.{when◌then◌else◌}
 use Rattle.base.specs.Same.{same_bytes}
 use Rattle.base.specs.Parts.{pasted}
 use Rattle.refusals.specs.declared.Refusal.TheVariants.{PositionRange}
@@ -65,9 +65,9 @@ unfoldable pub turn_of : ℕ → ℕ → Bool → Bool → List ℕ → List ℕ
 turn_of n d lends rends s t =
     let f = first limit s in
     let g = first limit t in
-    if hungry lends f then stays n d Left else
-    if hungry rends g then stays n d Right else
-    if stops f && stops g then closes n d s t else
+    when hungry lends f then stays n d Left else
+    when hungry rends g then stays n d Right else
+    when stops f && stops g then closes n d s t else
     settles n d f g
 
 -- ---- As many as there is room for
@@ -129,9 +129,9 @@ after c more = record {
 unfoldable pub turns_within : ℕ → ℕ → ℕ → ℕ → Bool → Bool → List ℕ → List ℕ → Comparing
 turns_within zero room n d lends rends s t = stays n d Room
 turns_within (suc most) room n d lends rends s t =
-    if ltb room longest_turn then stays n d Room else
+    when ltb room longest_turn then stays n d Room else
     (let c = turn_of n d lends rends s t in
-    if goes_on c.wants then
+    when goes_on c.wants then
     after c (turns_within most (room - length c.text) c.agree c.differ lends rends (drop c.left s) (drop c.right t))
     else c)
 
@@ -162,4 +162,4 @@ is_counted n d left right = is_within (n + d + 1) left right
 -- where they can't, nothing is changed
 unfoldable pub compared_of : List ℕ → Bool → List ℕ → Bool → ℕ → ℕ → List ℕ → Compared × List ℕ
 compared_of s lends t rends n d out =
-    if is_counted n d (length s) (length t) then filled_of s lends t rends n d out else (shown (stays n d (Refused PositionRange)), out)
+    when is_counted n d (length s) (length t) then filled_of s lends t rends n d out else (shown (stays n d (Refused PositionRange)), out)

@@ -1,7 +1,7 @@
 -- What the program promises of its blocks, of how a comparison ends, and of its status.
 -- Assumes nothing.
 use Rattle.std.specs.Prelude.{ℕ, ◌-◌, ◌≤◌, ◌<◌, ◌≡◌, Bool, true, false, List, eqb, length, take}
-use Rattle.base.specs.Choice.{if◌then◌else◌}
+use Rattle.base.specs.Choice.{when◌then◌else◌}
 use Rattle.base.specs.Parts.{part}
 use Rattle.reading.specs.Reading.{limit}
 use Rattle.comparing.specs.declared.Wants.{Wants}
@@ -51,7 +51,7 @@ abbrev pub ended_by : Wants → ℕ → Ended
 ended_by Left differ = LeftFailed
 ended_by Right differ = RightFailed
 ended_by Room differ = WriteFailed
-ended_by Nothing differ = if eqb differ 0 then Same else Other
+ended_by Nothing differ = when eqb differ 0 then Same else Other
 ended_by (Refused r) differ = Uncounted
 
 -- as of diff(1): 0 no difference, 1 a difference, 2 trouble
@@ -65,7 +65,7 @@ status_of Uncounted = 2
 
 -- 0 only where all of a text was written
 abbrev pub status_printed : Bool → ℕ
-status_printed all = if all then 0 else 2
+status_printed all = when all then 0 else 2
 
 -- an argument names an upload, or is none that can be read
 abbrev pub is_upload : Asked → Bool

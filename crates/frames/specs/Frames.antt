@@ -2,7 +2,7 @@
 -- refuses, then a buffer that is too short (RULES 1).
 -- Assumes nothing.
 use Rattle.std.specs.Prelude.{ℕ, ◌+◌, ◌-◌, ◌≤◌, ◌<◌, List, ◌∷◌, leb, length}
-use Rattle.base.specs.Choice.{if◌then◌else◌}
+use Rattle.base.specs.Choice.{when◌then◌else◌}
 use Rattle.base.specs.Parts.{part, pasted}
 use Rattle.packets.specs.Listed.{listed}
 use Rattle.reading.specs.Frame.{frame}
@@ -19,7 +19,7 @@ framed_body dest kind (refused r) = refused r
 
 -- the address is tested first
 unfoldable pub framed : ℕ → ℕ → Image → Image
-framed dest kind image = if listed dest then framed_body dest kind image else refused BadAddress
+framed dest kind image = when listed dest then framed_body dest kind image else refused BadAddress
 
 -- ---- how the writers get there
 
@@ -32,7 +32,7 @@ most_payload = limit - overhead
 
 -- where the payload starts in a buffer of that many bytes: behind the head. A buffer with no room for head and check byte has no place for one
 unfoldable pub payload_start : ℕ → ℕ
-payload_start len = if leb overhead len then 3 else 0
+payload_start len = when leb overhead len then 3 else 0
 
 -- what a payload may be: of 1 to 60 bytes, or refused
 abbrev pub Small : Image → Type 0

@@ -10,7 +10,7 @@ use native.Mathlib.Omega.{arith}
 use borrow.Author.Tests.{ltb-true, ltb-false, lt-ltb, le-ltb, eqb-true, eqb-false}
 use lib.Dec.{ltb, eqb, lit<, lit≤}
 use lib.ListN.{length, get_or}
-use Rattle.base.specs.Choice.{if◌then◌else◌}
+use Rattle.base.specs.Choice.{when◌then◌else◌}
 use Rattle.base.specs.Bytes.{Bytes}
 use Rattle.base.proofs.Tests.{by_test}
 use Rattle.groups.specs.Groups.{groups, WellFormed}
@@ -108,8 +108,8 @@ first w b e h = let low = ltb-false 1 w e in absurd (omega arith)
 by_tests : (g v w b : ℕ) (t₁ t₂ t₃ t₄ t₅ : Bool)
     → ltb b 128 ≡ t₁ → ltb 1 w ≡ t₂ → eqb b 0 ≡ t₃ → ltb g (v + b * w) ≡ t₄ → ltb g (128 * w) ≡ t₅
     → Case g v w b
-    (if t₁ then if t₃ && t₂ then Malformed else if t₄ then Malformed else Done (v + b * w)
-    else if t₅ then Malformed else GoesOn (v + (b - 128) * w) (128 * w))
+    (when t₁ then when t₃ && t₂ then Malformed else when t₄ then Malformed else Done (v + b * w)
+    else when t₅ then Malformed else GoesOn (v + (b - 128) * w) (128 * w))
 by_tests g v w b true true true t₄ t₅ e₁ e₂ e₃ e₄ e₅ = zero_last (ltb-true _ _ e₁) (ltb-true _ _ e₂) (eqb-true _ _ e₃)
 by_tests g v w b true true false true t₅ e₁ e₂ e₃ e₄ e₅ = large (ltb-true _ _ e₁) (λ _. some b (eqb-false b 0 e₃)) (ltb-true _ _ e₄)
 by_tests g v w b true true false false t₅ e₁ e₂ e₃ e₄ e₅ = last (ltb-true _ _ e₁) (λ _. some b (eqb-false b 0 e₃)) (ltb-false _ _ e₄)

@@ -2,7 +2,7 @@
 -- (RULES 9.2).
 -- Assumes nothing.
 use Rattle.std.specs.Prelude.{ℕ, ◌+◌, ◌*◌, ◌-◌, ◌&&◌, List, [], ◌∷◌, ltb, eqb, length}
-use Rattle.base.specs.Choice.{if◌then◌else◌}
+use Rattle.base.specs.Choice.{when◌then◌else◌}
 use Rattle.groups.specs.declared.Step.{Step}
 use Rattle.groups.specs.declared.Step.TheVariants.{GoesOn, Done, Malformed}
 use Rattle.groups.specs.declared.Front.{Front}
@@ -16,21 +16,21 @@ use Rattle.groups.specs.declared.Front.TheVariants as front
 -- a byte whose top bit is set: another group follows, worth at least 128 * weight, so where that is above the greatest there are too many
 unfoldable pub further : ℕ → ℕ → ℕ → ℕ → Step
 further greatest value weight b =
-    if ltb greatest (128 * weight) then Malformed else GoesOn (value + (b - 128) * weight) (128 * weight)
+    when ltb greatest (128 * weight) then Malformed else GoesOn (value + (b - 128) * weight) (128 * weight)
 
 unfoldable pub valued : ℕ → ℕ → ℕ → ℕ → Step
-valued greatest value weight b = if ltb greatest (value + b * weight) then Malformed else Done (value + b * weight)
+valued greatest value weight b = when ltb greatest (value + b * weight) then Malformed else Done (value + b * weight)
 
 -- the last byte: first its form, that it is not 0 after other groups; then the value
 unfoldable pub final : ℕ → ℕ → ℕ → ℕ → Step
-final greatest value weight b = if eqb b 0 && ltb 1 weight then Malformed else valued greatest value weight b
+final greatest value weight b = when eqb b 0 && ltb 1 weight then Malformed else valued greatest value weight b
 
 unfoldable pub step : ℕ → ℕ → ℕ → ℕ → Step
-step greatest value weight b = if ltb b 128 then final greatest value weight b else further greatest value weight b
+step greatest value weight b = when ltb b 128 then final greatest value weight b else further greatest value weight b
 
 -- for any value and weight: a number that is begun has a value below what its next group is worth
 abbrev pub step_of : ℕ → ℕ → ℕ → ℕ → Step
-step_of greatest value weight b = if ltb value weight then step greatest value weight b else Malformed
+step_of greatest value weight b = when ltb value weight then step greatest value weight b else Malformed
 
 -- ---- A string
 

@@ -1,7 +1,7 @@
 -- A raw channel in microseconds, and the raw view of any bytes, for a host (RULES 14).
 -- Assumes nothing.
 use Rattle.std.specs.Prelude.{ℕ, ◌≡◌, List, [], ◌∷◌, eqb, get_or, drop}
-use Rattle.base.specs.Choice.{if◌then◌else◌}
+use Rattle.base.specs.Choice.{when◌then◌else◌}
 use Rattle.micros.specs.Micros.{Answers}
 use Rattle.host_answer.specs.Answer.{lowest_first, packed, answer_row}
 use Rattle.host_records.specs.Read.{given_all, by_row}
@@ -18,4 +18,4 @@ raw_bytes address kind check = lowest_first (0 ∷ address ∷ kind ∷ check �
 
 -- a raw view's row: as it stands, or a refusal as every entry answers it
 unfoldable pub answer_raw : List ℕ → ℕ
-answer_raw row = if eqb (get_or row 0 0) 0 then lowest_first row else packed (answer_row row)
+answer_raw row = when eqb (get_or row 0 0) 0 then lowest_first row else packed (answer_row row)

@@ -1,7 +1,7 @@
 -- Writers of whole frames for a host (RULES 14): the record that an entry makes of its numbers, what the entry answers, and the buffer afterwards.
 -- Assumes nothing.
 use Rattle.std.specs.Prelude.{ℕ, List, eqb, ℤ, length}
-use Rattle.base.specs.Choice.{if◌then◌else◌}
+use Rattle.base.specs.Choice.{when◌then◌else◌}
 use Rattle.packets.specs.Listed.{listed}
 use Rattle.refusals.specs.declared.Refusal.{Refusal}
 use Rattle.refusals.specs.declared.Refusal.TheVariants.{InvalidPayloadLength, BadAddress}
@@ -84,8 +84,8 @@ baro_altitude_from altitude_packed vertical_speed_packed = record {
 
 -- sixteen channels, or a refusal
 unfoldable pub sixteen_image : List ℕ → Image
-sixteen_image cs = if eqb (length cs) channels_count then channels_image (record { 0 = cs }) else refused InvalidPayloadLength
+sixteen_image cs = when eqb (length cs) channels_count then channels_image (record { 0 = cs }) else refused InvalidPayloadLength
 
 -- where there is no record, a bad address is refused first
 abbrev pub refused_for : ℕ → Refusal → Written
-refused_for dest r = if listed dest then Refused r else Refused BadAddress
+refused_for dest r = when listed dest then Refused r else Refused BadAddress

@@ -5,7 +5,7 @@ use mathlib.Core.List.{List, ◌++◌}
 use Prim.Native.Nat.{ℕ, ◌+◌, ◌≤◌}
 use lib.Dec.{eqb, lit<}
 use lib.ListN.{set}
-use Rattle.base.specs.Choice.{if◌then◌else◌}
+use Rattle.base.specs.Choice.{when◌then◌else◌}
 use Rattle.reading.specs.Reading.{limit}
 use Rattle.stream.specs.Seen.{unplaced, frame_among, if_refused, seen}
 use Rattle.numbered.specs.Seen.{if_beyond, seen_at}
@@ -33,7 +33,7 @@ reply_whole t (Refused r) f = refusal_whole t r f.0
 
 -- the eight bytes with 0 for an offset in the state
 abbrev offsetless : HostAnswer → List ℕ
-offsetless t = if eqb t.in_state 1 then set (eight_bytes t) 3 0 else eight_bytes t
+offsetless t = when eqb t.in_state 1 then set (eight_bytes t) 3 0 else eight_bytes t
 
 by_cases : (t : ℕ) (a : Reply) (state out : List ℕ) → Fits (answer_reply t a) → ((at n : ℕ) → a ≡ Frame (InHeld at n) → at + n ≤ limit)
     → seen_call (packed (answer_reply t a)) state out

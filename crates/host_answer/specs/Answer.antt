@@ -1,7 +1,7 @@
 -- What every entry answers (RULES 14): eight bytes, which C declares as a struct of eight and a register carries as one number, lowest byte first.
 -- Assumes nothing.
 use Rattle.std.specs.Prelude.{ℕ, ◌+◌, ◌*◌, ◌%◌, List, [], ◌∷◌, eqb, get_or}
-use Rattle.base.specs.Choice.{if◌then◌else◌}
+use Rattle.base.specs.Choice.{when◌then◌else◌}
 use Rattle.refusals.specs.Row.{row_of}
 use Rattle.refusals.specs.declared.Refusal.{Refusal}
 use Rattle.host_answer.specs.declared.answer.HostAnswer.{HostAnswer}
@@ -39,7 +39,7 @@ answer_refusal r = answer_carried 0 (row_of r)
 
 -- any row: 0 and a count, or a refusal's
 unfoldable pub answer_row : List ℕ → HostAnswer
-answer_row row = if eqb (get_or row 0 0) 0 then answer_count (get_or row 1 0) else answer_carried 0 row
+answer_row row = when eqb (get_or row 0 0) 0 then answer_count (get_or row 1 0) else answer_carried 0 row
 
 -- .. and what is left of the bytes that were lent to be written
 abbrev pub answers : {A : Type 0} → List ℕ × A → ℕ × A

@@ -1,7 +1,7 @@
 -- One call of the stream over the state's lent bytes, in eight bytes (RULES 14).
 -- Assumes nothing.
 use Rattle.std.specs.Prelude.{ℕ, ◌+◌, ◌≡◌, Bool, true, false, List, [], ◌∷◌, ltb}
-use Rattle.base.specs.Choice.{if◌then◌else◌}
+use Rattle.base.specs.Choice.{when◌then◌else◌}
 use Rattle.base.specs.Parts.{placed}
 use Rattle.refusals.specs.Row.{row_of, number_of}
 use Rattle.stream.specs.declared.step.Place.{Place}
@@ -52,7 +52,7 @@ says_where (Refused r) = ltb (number_of r) 4
 
 -- .. to the first place of a slice of numbers, if there is one
 unfoldable pub told : Reply → ℕ → List ℕ → List ℕ
-told reply began out = if says_where reply then placed out 0 (began ∷ []) else out
+told reply began out = when says_where reply then placed out 0 (began ∷ []) else out
 
 -- the call is the stream's over the state, the number is what it says, and the slice is told where its answer began
 pub record Calls (before input out after outAfter : List ℕ) (r : ℕ) : Type 0 where

@@ -2,7 +2,7 @@
 -- the bytes beside them, on which nothing depends but a frame's offset in the state.
 -- Assumes nothing.
 use Rattle.std.specs.Prelude.{ℕ, zero, suc, ◌/◌, ◌%◌, List, [], ◌∷◌, ◌++◌, eqb, get_or, set}
-use Rattle.base.specs.Choice.{if◌then◌else◌}
+use Rattle.base.specs.Choice.{when◌then◌else◌}
 use Rattle.base.specs.Parts.{part}
 use Rattle.refusals.specs.Row.{number_of}
 use Rattle.refusals.specs.declared.Refusal.TheVariants.{BadState, PositionRange}
@@ -30,10 +30,10 @@ unfoldable pub seen_call : ℕ → List ℕ → List ℕ → SeenCall
 seen_call r state out =
     let answer = unpacked 8 r in
     record {
-      answer = if eqb (get_or answer 2 0) 1 then set answer 3 0 else answer;
-      frame = if eqb (get_or answer 2 0) 1 then part state (get_or answer 3 0) (get_or answer 4 0) else [];
+      answer = when eqb (get_or answer 2 0) 1 then set answer 3 0 else answer;
+      frame = when eqb (get_or answer 2 0) 1 then part state (get_or answer 3 0) (get_or answer 4 0) else [];
       held = held_by state;
       position = position_in state;
-      refused = (if eqb (get_or answer 0 0) (number_of BadState) then state else []) ++ (if eqb (get_or answer 0 0) (number_of PositionRange) then state else []);
+      refused = (when eqb (get_or answer 0 0) (number_of BadState) then state else []) ++ (when eqb (get_or answer 0 0) (number_of PositionRange) then state else []);
       told = out;
     }

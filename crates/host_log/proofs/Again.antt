@@ -10,7 +10,7 @@ use borrow.Author.Tests.{eqb-true, le-leb, eq-eqb}
 use lib.Dec.{eqb, leb}
 use lib.ListN.{length, take, drop, length-append}
 use lib.Seq.{take_at}
-use Rattle.base.specs.Choice.{if◌then◌else◌}
+use Rattle.base.specs.Choice.{when◌then◌else◌}
 use Rattle.base.proofs.Tests.{by_test}
 use Rattle.refusals.specs.Row.{row_of, number_of}
 use Rattle.refusals.specs.declared.Refusal.{Refusal}

@@ -1,7 +1,7 @@
 -- One call of a log's reader over the host's state, the end, and a reset (RULES 16.12).
 -- Assumes nothing.
 use Rattle.std.specs.Prelude.{◌≡◌, Bool, true, false, List, [], ◌∷◌, ℕ, eqb, length}
-use Rattle.base.specs.Choice.{if◌then◌else◌}
+use Rattle.base.specs.Choice.{when◌then◌else◌}
 use Rattle.refusals.specs.Row.{row_of, number_of}
 use Rattle.refusals.specs.declared.Refusal.TheVariants.{BadState}
 use Rattle.log_reader.specs.Reader.{Runs, Finishes}
@@ -49,4 +49,4 @@ ending_row (Refused r) = row_of r
 
 -- a reset looks at no byte of the state, only at how many there are: the row, and the state afterwards
 unfoldable pub reset_state : List ℕ → List ℕ × List ℕ
-reset_state state = if eqb (length state) size then (ending_row Log, state_of (Number Version 0 0) (places_in state)) else (row_of BadState, state)
+reset_state state = when eqb (length state) size then (ending_row Log, state_of (Number Version 0 0) (places_in state)) else (row_of BadState, state)

@@ -2,7 +2,7 @@
 -- ones.
 -- Assumes nothing.
 use Rattle.std.specs.Prelude.{Bool, List, [], ℕ, eqb, get_or, take}
-use Rattle.base.specs.Choice.{if◌then◌else◌}
+use Rattle.base.specs.Choice.{when◌then◌else◌}
 use Rattle.base.specs.Parts.{part}
 use Rattle.host_answer.specs.Seen.{unpacked}
 use Rattle.log_reader.specs.Seen.{held_by, frame_among}
@@ -25,14 +25,14 @@ seen good after r = record {
   head = take places_at after;
   held = held_by (places_in after) (reader_in after);
   frame = frame_among (places_in after) r.answer;
-  refused = if good then [] else after;
+  refused = when good then [] else after;
 }
 
 -- ---- Of an entry of the host's, by its eight bytes
 
 -- the bytes of a frame in the state
 unfoldable pub frame_by : ℕ → List ℕ → List ℕ
-frame_by r after = let answer = unpacked 8 r in if eqb (get_or answer 2 0) 1 then part after (get_or answer 3 0) (get_or answer 4 0) else []
+frame_by r after = let answer = unpacked 8 r in when eqb (get_or answer 2 0) 1 then part after (get_or answer 3 0) (get_or answer 4 0) else []
 
 pub record SeenCall : Type 0 where
   pub answer : ℕ
@@ -50,5 +50,5 @@ seen_call good after seconds r = record {
   head = take places_at after;
   held = held_by (places_in after) (reader_in after);
   frame = frame_by r after;
-  refused = if good then [] else after;
+  refused = when good then [] else after;
 }

@@ -1,7 +1,7 @@
 -- The host's state of a log's reader as bytes (RULES 16.12): a head of eleven, then as many places as the limit. Only here it is said where a field stands.
 -- Assumes nothing.
 use Rattle.std.specs.Prelude.{ℕ, ◌+◌, ◌%◌, Bool, ◌&&◌, List, ◌∷◌, ◌++◌, eqb, leb, length, get_or, drop}
-use Rattle.base.specs.Choice.{if◌then◌else◌}
+use Rattle.base.specs.Choice.{when◌then◌else◌}
 use Rattle.base.specs.Parts.{part}
 use Rattle.refusals.specs.Row.{number_of}
 use Rattle.refusals.specs.declared.Refusal.{Refusal}
@@ -42,7 +42,7 @@ head_number Seconds v g = record { stage = 1; count = g; size = 0; value = v; se
 head_number (Size t) v g = record { stage = 2; count = g; size = 0; value = v; seconds = t }
 
 abbrev pub stage_of : Refusal → ℕ
-stage_of r = if eqb (number_of r) 9 then 5 else 6
+stage_of r = when eqb (number_of r) 9 then 5 else 6
 
 abbrev pub head_of : Reader → Head
 head_of (Number wanted v g) = head_number wanted v g
@@ -53,12 +53,12 @@ head_of Ended = bare 4
 -- .. and is not looked at
 abbrev pub reader_of : Head → Reader
 reader_of h =
-    if eqb h.stage 0 then Number Version h.value h.count else
-    if eqb h.stage 1 then Number Seconds h.value h.count else
-    if eqb h.stage 2 then Number (Size h.seconds) h.value h.count else
-    if eqb h.stage 3 then Frame h.seconds h.size h.count else
-    if eqb h.stage 4 then Ended else
-    if eqb h.stage 5 then Refused InvalidLog else Refused InvalidFrame
+    when eqb h.stage 0 then Number Version h.value h.count else
+    when eqb h.stage 1 then Number Seconds h.value h.count else
+    when eqb h.stage 2 then Number (Size h.seconds) h.value h.count else
+    when eqb h.stage 3 then Frame h.seconds h.size h.count else
+    when eqb h.stage 4 then Ended else
+    when eqb h.stage 5 then Refused InvalidLog else Refused InvalidFrame
 
 -- ---- The state
 

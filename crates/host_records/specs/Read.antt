@@ -1,7 +1,7 @@
 -- Readers of payloads (RULES 14): a record's numbers go to the front of a lent slice, and the answer says how many.
 -- Assumes nothing.
 use Rattle.std.specs.Prelude.{ℕ, List, ◌++◌, eqb, leb, ℤ, length, get_or, drop}
-use Rattle.base.specs.Choice.{if◌then◌else◌}
+use Rattle.base.specs.Choice.{when◌then◌else◌}
 use Rattle.refusals.specs.declared.Refusal.TheVariants.{BufferOverflow}
 use Rattle.layout.specs.Decoded.{Decoded, decoded, refused}
 use Rattle.channels.specs.declared.RcChannelsPacked.{RcChannelsPacked}
@@ -13,7 +13,7 @@ use Rattle.host_answer.specs.Answer.{packed, answer_count, answer_refusal, answe
 -- the numbers at the front and everything past them kept, or refused for want of room, and all of it kept
 unfoldable pub given : {A : Type 0} → HostAnswer → List A → List A → ℕ × List A
 given answer vs out =
-    if leb (length vs) (length out) then (packed answer, vs ++ drop (length vs) out) else (packed (answer_refusal BufferOverflow), out)
+    when leb (length vs) (length out) then (packed answer, vs ++ drop (length vs) out) else (packed (answer_refusal BufferOverflow), out)
 
 -- all numbers of a record, and how many these are
 abbrev pub given_all : {A : Type 0} → List A → List A → ℕ × List A
@@ -30,7 +30,7 @@ gives (refused row) out = (packed (answer_row row), out)
 
 -- a record that stands beside its answer, by the answer's row
 abbrev pub by_row : {A : Type 0} → List ℕ → ℕ × List A → List A → ℕ × List A
-by_row row whole out = if eqb (get_or row 0 0) 0 then whole else (packed (answer_row row), out)
+by_row row whole out = when eqb (get_or row 0 0) 0 then whole else (packed (answer_row row), out)
 
 unfoldable pub gives_channels : List ℕ × RcChannelsPacked → List ℕ → ℕ × List ℕ
 gives_channels read out = by_row read.0 (given_all read.1.0 out) out

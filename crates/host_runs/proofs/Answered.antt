@@ -8,7 +8,7 @@ use mathlib.Core.Bool.{true}
 use borrow.Author.Tests.{ne_eqb, lt-ltb}
 use lib.Dec.{leb, lit<}
 use lib.ListN.{length, get_or}
-use Rattle.base.specs.Choice.{if◌then◌else◌}
+use Rattle.base.specs.Choice.{when◌then◌else◌}
 use Rattle.base.specs.Parts.{placed}
 use Rattle.base.proofs.Parts.{placed_fits, pasted_front}
 use Rattle.base.proofs.Tests.{by_test}
@@ -68,7 +68,7 @@ module _ (t : ℕ) (input state : List ℕ) where
       let z : number_of r ≡ 255 = rw (unpack _ (reply_whole t (Refused r) f)) at e in absurd (omega (arith, number_bounds r))
 
   -- where it says that it began
-  told_by_lem : (a : Reply) → Fits (answer_reply t a) → (slice : List ℕ) → told_in (packed (answer_reply t a)) slice ≡ (if says_where a then get_or slice 0 0 ∷ [] else [])
+  told_by_lem : (a : Reply) → Fits (answer_reply t a) → (slice : List ℕ) → told_in (packed (answer_reply t a)) slice ≡ (when says_where a then get_or slice 0 0 ∷ [] else [])
   unfolding answer_reply told_in says_where
   told_by_lem More f slice = rw (unpack _ (reply_whole t More f))
   told_by_lem (Frame (InPiece n)) f slice = rw (unpack _ (reply_whole t (Frame (InPiece n)) f))
@@ -82,7 +82,7 @@ placed_first began place rest =
 
 -- the answers of the reading that a reply stands for are numbered where it says that it began
 where_by : (a : Reply) (piece places : List ℕ) (began place : ℕ) (rest : List ℕ) → number_said (meaning_of a piece places) ≤ 3
-    → (if says_where a then get_or (told a began (place ∷ rest)) 0 0 ∷ [] else []) ≡ (if asks_for_more a then [] else began ∷ [])
+    → (when says_where a then get_or (told a began (place ∷ rest)) 0 0 ∷ [] else []) ≡ (when asks_for_more a then [] else began ∷ [])
 unfolding told says_where number_said meaning_of
 where_by More piece places began place rest low = refl
 where_by (Frame p) piece places began place rest low = ap (λ (n : ℕ). n ∷ []) (placed_first began place rest)
@@ -107,15 +107,15 @@ module _ {before input out after outAfter : List ℕ} {r : ℕ} (c : Calls befor
 -- what the slice is told of a call that moves: where it began, if it answers
 pub told_is : {before input : List ℕ} {place : ℕ} {rest after slice : List ℕ} {r : ℕ} (c : Calls before input (place ∷ rest) after slice r)
     → is_state before ≡ true → can_number before input ≡ true
-    → told_in r slice ≡ (if asks_for_more c.answered.reply then [] else position_in before ∷ [])
+    → told_in r slice ≡ (when asks_for_more c.answered.reply then [] else position_in before ∷ [])
 told_is {before} {input} {place} {rest} {after} {slice} {r} c good can =
     let a = c.answered.reply in
     let began = c.steps.began (has_size_lem before (state_size before good)) in
     ap (λ (n : ℕ). told_in n slice) c.packs
     ∙ told_by_lem c.answered.taken input after a (call_fits c.steps) slice
-    ∙ ap (λ (l : List ℕ). if says_where a then get_or l 0 0 ∷ [] else []) c.tells
+    ∙ ap (λ (l : List ℕ). when says_where a then get_or l 0 0 ∷ [] else []) c.tells
     ∙ where_by a input (places_in after) c.answered.position place rest (says_framing (moves c.steps good can))
-    ∙ ap (λ (p : ℕ). if asks_for_more a then [] else p ∷ []) began
+    ∙ ap (λ (p : ℕ). when asks_for_more a then [] else p ∷ []) began
 
 -- ---- An entry that answers by a row
 

@@ -9,7 +9,7 @@ use native.Mathlib.Omega.{arith}
 use borrow.Author.Tests.{ltb-true}
 use lib.Dec.{ltb, lit≤}
 use lib.ListN.{length, take, drop}
-use Rattle.base.specs.Choice.{if◌then◌else◌}
+use Rattle.base.specs.Choice.{when◌then◌else◌}
 use Rattle.base.proofs.Tests.{by_test}
 use Rattle.refusals.specs.Row.{row_of}
 use Rattle.refusals.specs.declared.Refusal.TheVariants.{BadState}
@@ -99,14 +99,14 @@ short_image state good =
 
 -- one answer more, and where it began
 numbered_on : (origin : ℕ) (given : List reading.Answer) (f : First) {p : ℕ} → p ≡ behind origin given
-    → map first (numbered origin (given ++ answered f)) ≡ map first (numbered origin given) ++ (if stops f then [] else p ∷ [])
+    → map first (numbered origin (given ++ answered f)) ≡ map first (numbered origin given) ++ (when stops f then [] else p ∷ [])
 unfolding answered stops
 numbered_on origin given f {p} e =
     ap (map first) (numbered_append origin given (answered f))
     ∙ map-append first (numbered origin given) (numbered (behind origin given) (answered f))
     ∙ ap (λ (l : List ℕ). map first (numbered origin given) ++ l) (by f)
   where
-    by : (f : First) → map first (numbered (behind origin given) (answered f)) ≡ (if stops f then [] else p ∷ [])
+    by : (f : First) → map first (numbered (behind origin given) (answered f)) ≡ (when stops f then [] else p ∷ [])
     by stop = refl
     by (says a) = ap (λ (q : ℕ). q ∷ []) (sym e)
 
@@ -137,7 +137,7 @@ followed (next {origin} {stream} {state} {said} {told} input later place rest {a
       stands = goes_to c.steps f.valid can ∙ ap (λ (q : ℕ). behind q more) f.stands ∙ sym (behind_append origin f.given more);
       tells = numbered_on origin f.given answer f.stands
           ∙ ap₂ (λ (x y : List ℕ). x ++ y) f.tells
-          (ap (λ (b : Bool). if b then [] else position_in state ∷ []) (sym (asks_where_stops moved)) ∙ sym (told_is c f.valid can));
+          (ap (λ (b : Bool). when b then [] else position_in state ∷ []) (sym (asks_where_stops moved)) ∙ sym (told_is c f.valid can));
     }
 followed (resume {origin} {stream} {state} out any {r} {s} {written} {after} run saves zero long e) =
     let f = followed run in

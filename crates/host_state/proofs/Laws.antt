@@ -10,7 +10,7 @@ use native.Mathlib.Omega.{arith}
 use borrow.Author.Tests.{lt-ltb, le-leb}
 use lib.Dec.{ltb}
 use lib.ListN.{length, get_or, take}
-use Rattle.base.specs.Choice.{if◌then◌else◌}
+use Rattle.base.specs.Choice.{when◌then◌else◌}
 use Rattle.base.specs.Parts.{pasted}
 use Rattle.base.proofs.Parts.{length_pasted}
 use Rattle.base.proofs.Tests.{by_test}
@@ -136,7 +136,7 @@ position_is_given s out good some = simp (good, le-leb 1 (length out) some) refl
 -- what a save writes depends on the held bytes and the position alone
 abbrev pub image_of : ℕ → List ℕ → Image
 image_of position held =
-    if ltb (length held) limit && is_within position (length held) 0 then bytes (saved_form position held) else refused BadState
+    when ltb (length held) limit && is_within position (length held) 0 then bytes (saved_form position held) else refused BadState
 
 pub image_by_held : (s : List ℕ) → is_state s ≡ true → state_image s ≡ image_of (position_in s) (held_by s)
 unfolding state_image save_image can_save is_savable

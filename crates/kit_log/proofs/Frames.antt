@@ -9,7 +9,7 @@ use native.Mathlib.Omega.{arith}
 use borrow.Author.Tests.{ltb-true, ltb-false, eqb-true, eq-eqb}
 use lib.Dec.{ltb, eqb}
 use lib.ListN.{length, get_or, replicate, length-append, length-replicate, get_or-append}
-use Rattle.base.specs.Choice.{if◌then◌else◌}
+use Rattle.base.specs.Choice.{when◌then◌else◌}
 use Rattle.base.proofs.Tests.{by_test, below}
 use Rattle.packets.specs.Listed.{listed}
 use Rattle.crc.specs.Remainder.{remainder}
@@ -38,7 +38,7 @@ pub record Fine (n : ℕ) (h : List ℕ) : Type 0 where
 
 says_by : (n : ℕ) (h : List ℕ) (b₁ b₂ b₃ b₄ b₅ : Bool)
     → listed (get_or h 0 0) ≡ b₁ → ltb (length h) 2 ≡ b₂ → eqb (get_or h 1 0 + 2) n ≡ b₃ → ltb (length h) n ≡ b₄ → passes h ≡ b₅
-    → (if not b₁ then false else if b₂ then true else if not b₃ then false else if b₄ then true else b₅) ≡ true
+    → (when not b₁ then false else when b₂ then true else when not b₃ then false else when b₄ then true else b₅) ≡ true
     → Fine n h
 says_by n h false b₂ b₃ b₄ b₅ e₁ e₂ e₃ e₄ e₅ q = absurd (let z : ◌≡◌ {A = ℕ} 0 1 = cc in omega arith)
 says_by n h true true b₃ b₄ b₅ e₁ e₂ e₃ e₄ e₅ q =

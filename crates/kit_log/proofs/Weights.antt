@@ -4,7 +4,7 @@ use mathlib.Core.Path.{◌≡◌, refl}
 use Prim.Native.Nat.{ℕ, zero, suc, ◌+◌, ◌*◌, ◌^◌, ◌≤◌}
 use native.Mathlib.Omega.{arith}
 use lib.Dec.{eqb}
-use Rattle.base.specs.Choice.{if◌then◌else◌}
+use Rattle.base.specs.Choice.{when◌then◌else◌}
 use Rattle.kit_log.specs.Entry.{greatest}
 
 -- what holds of each count of groups that may have come
@@ -37,7 +37,7 @@ weight_high =
 
 -- how many groups have come, by what the next is worth
 abbrev pub groups_at : ℕ → ℕ
-groups_at w = if eqb w 1 then 0 else if eqb w 128 then 1 else if eqb w 16384 then 2 else if eqb w 2097152 then 3 else 4
+groups_at w = when eqb w 1 then 0 else when eqb w 128 then 1 else when eqb w 16384 then 2 else when eqb w 2097152 then 3 else 4
 
 pub weight_back : (g : ℕ) → g ≤ 4 → groups_at (128 ^ g) ≡ g
 weight_back = up_to_four (λ (g : ℕ). groups_at (128 ^ g) ≡ g) refl refl refl refl refl

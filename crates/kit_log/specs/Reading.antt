@@ -1,7 +1,7 @@
 -- What a reader makes of a log, byte by byte (RULES 16.3 to 16.7). The reading of a string is the fold of this over it, so it can't depend on cuts.
 -- Assumes nothing.
 use Rattle.std.specs.Prelude.{ℕ, ◌+◌, Bool, true, false, ◌&&◌, not, List, [], ◌∷◌, ◌++◌, leb, ltb, eqb, length, get_or}
-use Rattle.base.specs.Choice.{if◌then◌else◌}
+use Rattle.base.specs.Choice.{when◌then◌else◌}
 use Rattle.packets.specs.Listed.{listed}
 use Rattle.refusals.specs.declared.Refusal.{Refusal}
 use Rattle.refusals.specs.declared.Refusal.TheVariants.{InvalidLog, InvalidFrame}
@@ -44,9 +44,9 @@ pub data Fed : Type 0 where
 
 -- a number that is well formed, by what it means: the first one is 1, and a length is that of a frame
 unfoldable pub meaning : Want → ℕ → State
-meaning version n = if eqb n 1 then boundary else refused InvalidLog
+meaning version n = when eqb n 1 then boundary else refused InvalidLog
 meaning seconds n = number (size n) 0 1
-meaning (size s) n = if leb 4 n && leb n limit then frame s n [] else refused InvalidFrame
+meaning (size s) n = when leb 4 n && leb n limit then frame s n [] else refused InvalidFrame
 
 -- a number is judged at its last byte or its fifth, form first
 unfoldable pub feed_number : Want → ℕ → ℕ → ℕ → State
@@ -57,16 +57,16 @@ feed_number want value weight b =
 -- address is listed, the second byte counts those behind it, and the last is the check byte (`begins_fine` and `fine_begins` of proofs/Frames)
 unfoldable pub fine : ℕ → List ℕ → Bool
 fine n h =
-    if not (listed (get_or h 0 0)) then false else
-    if ltb (length h) 2 then true else
-    if not (eqb (get_or h 1 0 + 2) n) then false else
-    if ltb (length h) n then true else
+    when not (listed (get_or h 0 0)) then false else
+    when ltb (length h) 2 then true else
+    when not (eqb (get_or h 1 0 + 2) n) then false else
+    when ltb (length h) n then true else
     passes h
 
 unfoldable pub feed_frame : ℕ → ℕ → List ℕ → Fed
 feed_frame s n h =
-    if not (fine n h) then on (refused InvalidFrame) else
-    if ltb (length h) n then on (frame s n h) else
+    when not (fine n h) then on (refused InvalidFrame) else
+    when ltb (length h) n then on (frame s n h) else
     entry (record { seconds = s; frame = h })
 
 -- a refusal stays; a byte behind the end is refused
@@ -115,7 +115,7 @@ reading s = read_from start s
 -- a log may end between entries, and nowhere else
 unfoldable pub finish : State → State
 finish (number version v w) = refused InvalidLog
-finish (number seconds v w) = if eqb w 1 then ended else refused InvalidLog
+finish (number seconds v w) = when eqb w 1 then ended else refused InvalidLog
 finish (number (size s) v w) = refused InvalidLog
 finish (frame s n h) = refused InvalidLog
 finish (refused r) = refused r

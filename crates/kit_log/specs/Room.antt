@@ -2,7 +2,7 @@
 -- the length and 64 for the frame.
 -- Assumes nothing.
 use Rattle.std.specs.Prelude.{◌≡◌, ℕ, ◌+◌, ◌-◌, ◌^◌, ◌≤◌, ◌<◌, eqb, length}
-use Rattle.base.specs.Choice.{if◌then◌else◌}
+use Rattle.base.specs.Choice.{when◌then◌else◌}
 use Rattle.reading.specs.Reading.{limit}
 use Rattle.kit_log.specs.Entry.{greatest}
 use Rattle.kit_log.specs.Reading.{Want, version, seconds, size, State, number, frame, refused, ended}
@@ -21,9 +21,9 @@ Led ended = Unit {0}
 
 -- a call takes no more: a number of more than one group can be neither the 1 nor a frame's length
 abbrev pub most_in : Want → ℕ → ℕ
-most_in version groups = if eqb groups 0 then 71 else 5 - groups
+most_in version groups = when eqb groups 0 then 71 else 5 - groups
 most_in seconds groups = 65 + (5 - groups)
-most_in (size t) groups = if eqb groups 0 then 65 else 5 - groups
+most_in (size t) groups = when eqb groups 0 then 65 else 5 - groups
 
 abbrev pub most : (st : State) → Led st → ℕ
 most (number want v w) led = most_in want led.groups

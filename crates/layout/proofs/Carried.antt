@@ -5,11 +5,11 @@ use lib.Dec.{eqb}
 use lib.IntN.{ℤ}
 use mir.Syntax.{Width, w8, w16, w32}
 use mir.Val.{to_z, of_z}
-use Rattle.base.specs.Choice.{if◌then◌else◌}
+use Rattle.base.specs.Choice.{when◌then◌else◌}
 
 -- the machine's integers that a field of that many bytes is read into and written from
 abbrev pub machine : ℕ → Width
-machine w = if eqb w 1 then w8 else if eqb w 2 then w16 else w32
+machine w = when eqb w 1 then w8 else when eqb w 2 then w16 else w32
 
 abbrev pub carry : ℕ → ℤ → ℤ
 carry w z = to_z (machine w) (of_z (machine w) z)

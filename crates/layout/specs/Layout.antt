@@ -2,7 +2,7 @@
 -- Assumes nothing.
 use Rattle.std.specs.Prelude.{ℕ, ◌+◌, ◌^◌, ◌<◌, ◌≡◌, List, [], ◌∷◌, ◌++◌, Bool, true, false, leb, ℤ, pos, length}
 use Rattle.std.specs.Int.Signed.{mag}
-use Rattle.base.specs.Choice.{if◌then◌else◌}
+use Rattle.base.specs.Choice.{when◌then◌else◌}
 use Rattle.numbers.specs.BigEndian.{be_of, bytes_of}
 use Rattle.numbers.specs.TwosComplement.{signed_of, twos_of, InRange}
 use Rattle.base.specs.Parts.{part}
@@ -65,4 +65,4 @@ record_bytes (f ∷ fs) (v ∷ vs) = bytes_for f v ++ record_bytes fs vs
 
 -- a payload that holds the fields reads as what `make` makes of their numbers, and bytes behind them are ignored; a shorter one is refused
 abbrev pub read_as : {R : Type 0} → List Field → (List ℤ → R) → R → List ℕ → R
-read_as fs make refusal payload = if leb (size_of fs) (length payload) then make (read_from fs 0 payload) else refusal
+read_as fs make refusal payload = when leb (size_of fs) (length payload) then make (read_from fs 0 payload) else refusal

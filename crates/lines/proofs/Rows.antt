@@ -8,7 +8,7 @@ use native.Mathlib.Omega.{arith}
 use borrow.Author.Tests.{eq-eqb, ne_eqb}
 use lib.Dec.{eqb}
 use lib.ListN.{length, get_or, drop}
-use Rattle.base.specs.Choice.{if◌then◌else◌}
+use Rattle.base.specs.Choice.{when◌then◌else◌}
 use Rattle.reading.specs.Answer.{Answer, InvalidSync, InvalidPacketLength, InvalidCrc, Frame, row}
 use Rattle.lines.specs.Digits.{hex_digit, hex}
 use Rattle.lines.specs.Lines.{sync_word, length_word, crc_word, line_end, frame_line, byte_line, crc_line, line, refusal_line}
@@ -16,7 +16,7 @@ use Rattle.lines.specs.Lines.{sync_word, length_word, crc_word, line_end, frame_
 -- ---- The line of an answer is that of its row
 
 abbrev pub line_of : List ℕ → List ℕ
-line_of r = if eqb (get_or r 0 0) 0 then (let c = drop 1 r in frame_line (get_or c 0 0) (get_or c 2 0) (length c - 4)) else refusal_line r
+line_of r = when eqb (get_or r 0 0) 0 then (let c = drop 1 r in frame_line (get_or c 0 0) (get_or c 2 0) (length c - 4)) else refusal_line r
 
 pub line_of_row : (a : Answer) → line a ≡ line_of (row a)
 unfolding line row refusal_line

@@ -1,7 +1,7 @@
 -- The lines of the answers to the held bytes and then an input, as many as there is room for (RULES 13).
 -- Assumes nothing.
 use Rattle.std.specs.Prelude.{ℕ, ◌+◌, ◌-◌, Bool, true, false, List, [], ◌∷◌, ◌++◌, ltb, length, drop}
-use Rattle.base.specs.Choice.{if◌then◌else◌}
+use Rattle.base.specs.Choice.{when◌then◌else◌}
 use Rattle.reading.specs.Answer.{Answer}
 use Rattle.reading.specs.Reading.{reading}
 use Rattle.reading.specs.Call.{call}
@@ -39,9 +39,9 @@ asking n held input = record { lines = []; taken = length input; held = held ++ 
 
 -- the answers that are to come, by whose list the definition ends, are given one by one, each by a call, while there is room for the longest line
 unfoldable pub list_from : ℕ → Numbering → List Answer → List ℕ → List ℕ → ℕ → Listing
-list_from m n [] held input room = if ltb room (room_for n) then full n held else asking n held input
+list_from m n [] held input room = when ltb room (room_for n) then full n held else asking n held input
 list_from m n (a ∷ more) held input room =
-    if ltb room (room_for n) then full n held else
+    when ltb room (room_for n) then full n held else
     (let c = call m held input in let l = lead n ++ line a in
     after l c.taken (list_from m (past n (a ∷ [])) more c.held (drop c.taken input) (room - length l)))
 

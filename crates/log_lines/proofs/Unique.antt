@@ -4,7 +4,7 @@ use mathlib.Core.Path.{◌≡◌}
 use mathlib.Core.Bool.{Bool, true}
 use mathlib.Core.List.{List}
 use Prim.Native.Nat.{ℕ}
-use Rattle.base.specs.Choice.{if◌then◌else◌}
+use Rattle.base.specs.Choice.{when◌then◌else◌}
 use Rattle.base.proofs.Unique.{OneAnswer, same}
 use Rattle.log_reader.specs.State.{is_state}
 use Rattle.log_reader.specs.declared.Reader.{Reader}
@@ -15,7 +15,7 @@ use Rattle.log_lines.proofs.put_last.Reads as put_last
 
 -- what a part shows; of a call that was refused for what it was lent, the reader and all places too
 abbrev is_kept : List ℕ → Reader → List ℕ → List ℕ → Bool
-is_kept before st part out = if is_state before st then is_short part out else true
+is_kept before st part out = when is_state before st then is_short part out else true
 
 module _ {before : List ℕ} {st : Reader} {part out : List ℕ} {places places' outAfter outAfter' : List ℕ} {r r' : Listed}
     (a : Lists before st part out places outAfter r) (b : Lists before st part out places' outAfter' r') where

@@ -1,7 +1,7 @@
 -- What the listing of a part of a log shows, and that it is the reading's.
 -- Assumes nothing.
 use Rattle.std.specs.Prelude.{ℕ, ◌+◌, ◌*◌, ◌≤◌, ◌≡◌, Bool, true, false, List, ltb, length}
-use Rattle.base.specs.Choice.{if◌then◌else◌}
+use Rattle.base.specs.Choice.{when◌then◌else◌}
 use Rattle.base.specs.Parts.{pasted}
 use Rattle.refusals.specs.declared.Refusal.{Refusal}
 use Rattle.refusals.specs.declared.Refusal.TheVariants.{BufferOverflow, BadState}
@@ -72,7 +72,7 @@ is_short part out = ltb (length out) (longest_entry * length part)
 
 unfoldable pub list_of : Bool → State → List ℕ → List ℕ → Shown
 list_of sound st part out =
-    if sound then (if is_short part out then refuses BufferOverflow st out else lists st part out) else refuses BadState st out
+    when sound then (when is_short part out then refuses BufferOverflow st out else lists st part out) else refuses BadState st out
 
 -- of a state, with room enough
 pub record Lines (before : List ℕ) (st : Reader) (part out places outAfter : List ℕ) (r : Listed) : Type 0 where
@@ -85,7 +85,7 @@ pub record Lists (before : List ℕ) (st : Reader) (part out places outAfter : L
   pub shown : shown_of places outAfter r ≡ list_of (is_state before st) (state_of before st) part out
   pub written_in : r.written ≤ length out
   pub stands : is_state before st ≡ true → is_state places r.reader ≡ true
-  pub kept : (if is_state before st then is_short part out else true) ≡ true → (r.reader ≡ st) × (places ≡ before)
+  pub kept : (when is_state before st then is_short part out else true) ≡ true → (r.reader ≡ st) × (places ≡ before)
 
 -- ---- A text at the front of a buffer
 

@@ -1,7 +1,7 @@
 -- The lines of a log (RULES 16): one for each entry, its seconds and then the listing's line of its frame; and a last one for how the log ended.
 -- Assumes nothing.
 use Rattle.std.specs.Prelude.{ℕ, List, [], ◌∷◌, ◌++◌, eqb}
-use Rattle.base.specs.Choice.{if◌then◌else◌}
+use Rattle.base.specs.Choice.{when◌then◌else◌}
 use Rattle.refusals.specs.Row.{number_of}
 use Rattle.refusals.specs.declared.Refusal.{Refusal}
 use Rattle.lines.specs.Lines.{leading, spaced_decimal, line_end, frame_line_at}
@@ -33,8 +33,8 @@ refused_word = 114 ∷ 101 ∷ 102 ∷ 117 ∷ 115 ∷ 101 ∷ 100 ∷ []
 -- a log is refused with 9 or 10, and with nothing else
 unfoldable pub refusal_line : Refusal → List ℕ
 refusal_line r =
-    if eqb (number_of r) 9 then refused_word ++ spaced_decimal 9 ++ line_end else
-    if eqb (number_of r) 10 then refused_word ++ spaced_decimal 10 ++ line_end else []
+    when eqb (number_of r) 9 then refused_word ++ spaced_decimal 9 ++ line_end else
+    when eqb (number_of r) 10 then refused_word ++ spaced_decimal 10 ++ line_end else []
 
 unfoldable pub ending_line : Ending → List ℕ
 ending_line Log = end_word ++ line_end

@@ -10,7 +10,7 @@ use borrow.Author.Tests.{ltb-true, leb-true, eqb-true, eq-eqb, ne_eqb}
 use lib.Dec.{ltb, leb, eqb, lit<}
 use lib.ListN.{length, get_or, take, drop, set, length-set}
 use lib.Seq.{length-take-le, get_or-take, take-take, take-suc-set, get_or-set_same, get_or-set_other}
-use Rattle.base.specs.Choice.{if◌then◌else◌}
+use Rattle.base.specs.Choice.{when◌then◌else◌}
 use Rattle.base.proofs.Tests.{by_test}
 use Rattle.base.proofs.Parts.{drop_take}
 use Rattle.refusals.specs.declared.Refusal.TheVariants.{InvalidFrame}
@@ -46,7 +46,7 @@ pub record Begun (p : List ℕ) (n k : ℕ) : Type 0 where
   pub held : held_fine n p k ≡ true
 
 standing_says : (p : List ℕ) (n k : ℕ) (b₁ b₂ b₃ : Bool) → leb 4 n ≡ b₁ → leb n limit ≡ b₂ → ltb k n ≡ b₃ → limit ≤ length p
-    → (if b₁ then if b₂ then if b₃ then held_fine n p k else false else false else false) ≡ true → Begun p n k
+    → (when b₁ then when b₂ then when b₃ then held_fine n p k else false else false else false) ≡ true → Begun p n k
 standing_says p n k true true true e₁ e₂ e₃ room q = record { room = room; low = leb-true _ _ e₁; high = leb-true _ _ e₂; short = ltb-true _ _ e₃; held = q }
 standing_says p n k true true false e₁ e₂ e₃ room q = absurd (let z : ◌≡◌ {A = ℕ} 0 1 = cc in omega arith)
 standing_says p n k true false b₃ e₁ e₂ e₃ room q = absurd (let z : ◌≡◌ {A = ℕ} 0 1 = cc in omega arith)
@@ -55,7 +55,7 @@ standing_says p n k false b₂ b₃ e₁ e₂ e₃ room q = absurd (let z : ◌�
 pub begun : (p : List ℕ) (t n k : ℕ) → is_state p (Frame t n k) ≡ true → Begun p n k
 begun p t n k e = standing_says p n k _ _ _ refl refl refl (state_room p (Frame t n k) e) (nested (leb 4 n) (leb n limit) (ltb k n) (held_fine n p k) (state_standing p (Frame t n k) e))
   where
-    nested : (b₁ b₂ b₃ b₄ : Bool) → ((b₁ && b₂) && (b₃ && b₄)) ≡ true → (if b₁ then if b₂ then if b₃ then b₄ else false else false else false) ≡ true
+    nested : (b₁ b₂ b₃ b₄ : Bool) → ((b₁ && b₂) && (b₃ && b₄)) ≡ true → (when b₁ then when b₂ then when b₃ then b₄ else false else false else false) ≡ true
     nested true true true b₄ q = q
     nested true true false b₄ q = q
     nested true false b₃ b₄ q = q

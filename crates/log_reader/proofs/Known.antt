@@ -9,7 +9,7 @@ use borrow.Author.Tests.{le-leb, lt-leb}
 use lib.Dec.{leb}
 use lib.ListN.{length, take}
 use lib.Seq.{length-take-le}
-use Rattle.base.specs.Choice.{if◌then◌else◌}
+use Rattle.base.specs.Choice.{when◌then◌else◌}
 use Rattle.base.specs.Parts.{part}
 use Rattle.base.proofs.Parts.{length_part}
 use Rattle.base.proofs.Tests.{by_test}
@@ -83,7 +83,7 @@ held_is p Ended = refl
 -- ---- the answer
 
 place_at : ℕ → ℕ → Place
-place_at taken n = if leb n taken then InPiece (taken - n) n else InHeld n
+place_at taken n = when leb n taken then InPiece (taken - n) n else InHeld n
 
 answer_at : ℕ → Said → Answer
 answer_at taken more = answer.More
@@ -92,7 +92,7 @@ answer_at taken (refuses r) = answer.Refused r
 
 among_at : ℕ → Said → List ℕ
 among_at taken more = []
-among_at taken (gives e) = if leb (length e.frame) taken then [] else e.frame
+among_at taken (gives e) = when leb (length e.frame) taken then [] else e.frame
 among_at taken (refuses r) = []
 
 answer_back : (piece p : List ℕ) (taken : ℕ) (a : Answer) → Placed piece p taken a

@@ -9,7 +9,7 @@ use borrow.Author.Tests.{eqb-true, eqb-false, ne_eqb}
 use lib.Dec.{eqb, leb, ltb}
 use lib.ListN.{length, take}
 use lib.Seq.{length-take-le}
-use Rattle.base.specs.Choice.{if◌then◌else◌}
+use Rattle.base.specs.Choice.{when◌then◌else◌}
 use Rattle.base.proofs.Tests.{by_test}
 use Rattle.refusals.specs.Row.{number_of}
 use Rattle.refusals.specs.declared.Refusal.{Refusal}
@@ -99,6 +99,6 @@ led_to p Ended s small = ended_led
 pub beside : (p q : List ℕ) (st : Reader) → limit ≤ length p → limit ≤ length q → held_by p st ≡ held_by q st → (is_state p st ≡ is_state q st) × (state_of p st ≡ state_of q st)
 beside p q (Number wanted v g) room room' e = (state_is p (Number wanted v g) room ∙ sym (state_is q (Number wanted v g) room'), refl)
 beside p q (Frame t n k) room room' e =
-    (state_is p (Frame t n k) room ∙ ap (λ (h : List ℕ). (leb 4 n && leb n limit) && (ltb k n && (if eqb k 0 then true else fine n h))) e ∙ sym (state_is q (Frame t n k) room'), ap (frame t n) e)
+    (state_is p (Frame t n k) room ∙ ap (λ (h : List ℕ). (leb 4 n && leb n limit) && (ltb k n && (when eqb k 0 then true else fine n h))) e ∙ sym (state_is q (Frame t n k) room'), ap (frame t n) e)
 beside p q (Refused r) room room' e = (state_is p (Refused r) room ∙ sym (state_is q (Refused r) room'), refl)
 beside p q Ended room room' e = (state_is p Ended room ∙ sym (state_is q Ended room'), refl)

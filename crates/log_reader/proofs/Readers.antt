@@ -10,7 +10,7 @@ use borrow.Author.Tests.{ltb-true, ltb-false, lt-ltb, le-ltb, le-leb, lt-leb, le
 use lib.Dec.{ltb, leb, eqb}
 use lib.ListN.{length, get_or, take}
 use lib.Seq.{length-take-le, get_or-take}
-use Rattle.base.specs.Choice.{if◌then◌else◌}
+use Rattle.base.specs.Choice.{when◌then◌else◌}
 use Rattle.base.proofs.Tests.{by_test}
 use Rattle.refusals.specs.Row.{number_of}
 use Rattle.refusals.specs.declared.Refusal.{Refusal}
@@ -37,7 +37,7 @@ use Rattle.log_reader.specs.declared.Reader.TheVariants.{Number, Frame, Refused,
 module _ (n k : ℕ) (p : List ℕ) (short : k < n) (room : n ≤ length p) where
   -- of a part of a frame, only the first two bytes matter
   abbrev two_bytes : Bool
-  two_bytes = if not (listed (get_or p 0 0)) then false else if ltb k 2 then true else eqb (get_or p 1 0 + 2) n
+  two_bytes = when not (listed (get_or p 0 0)) then false else when ltb k 2 then true else eqb (get_or p 1 0 + 2) n
 
   fine_held : 1 ≤ k → fine n (take k p) ≡ two_bytes
   unfolding fine

@@ -1,7 +1,7 @@
 -- What the functions inside promise.
 -- Assumes nothing.
 use Rattle.std.specs.Prelude.{◌≡◌, Bool, true, false, List, [], ℕ, ◌≤◌, ◌+◌, ◌-◌, eqb, length, get_or, take, drop}
-use Rattle.base.specs.Choice.{if◌then◌else◌}
+use Rattle.base.specs.Choice.{when◌then◌else◌}
 use Rattle.refusals.specs.declared.Refusal.{Refusal}
 use Rattle.refusals.specs.declared.Refusal.TheVariants.{InvalidLog}
 use Rattle.packets.specs.Listed.{listed}
@@ -38,7 +38,7 @@ FedNumber wanted v g b r = Is r (feed_number (want_of wanted) v (weight_of g) b)
 
 -- whether a byte may come behind that many of a frame of n, the last byte aside
 abbrev pub may_follow : ℕ → ℕ → ℕ → Bool
-may_follow n k b = if eqb k 0 then listed b else if eqb k 1 then eqb (b + 2) n else true
+may_follow n k b = when eqb k 0 then listed b else when eqb k 1 then eqb (b + 2) n else true
 
 -- the places hold a whole frame of n bytes, of which all but the check byte are known to be good
 pub record LastByte (p : List ℕ) (n b : ℕ) : Type 0 where
@@ -96,7 +96,7 @@ answer_at Ended = answer.More
 -- the frame that is to begin with the next byte: its seconds and its size, or the size 0
 abbrev pub fresh_of : Reader → Fresh
 fresh_of (Number wanted v g) = record { seconds = 0; size = 0 }
-fresh_of (Frame t n k) = if eqb k 0 then record { seconds = t; size = n } else record { seconds = 0; size = 0 }
+fresh_of (Frame t n k) = when eqb k 0 then record { seconds = t; size = n } else record { seconds = 0; size = 0 }
 fresh_of (Refused r) = record { seconds = 0; size = 0 }
 fresh_of Ended = record { seconds = 0; size = 0 }
 
@@ -110,7 +110,7 @@ pub record InOne (t n : ℕ) (piece : List ℕ) (i : ℕ) (r : Answered) : Type 
 
 abbrev pub end_number : Wanted → ℕ → Reader
 end_number Version g = Refused InvalidLog
-end_number Seconds g = if eqb g 0 then Ended else Refused InvalidLog
+end_number Seconds g = when eqb g 0 then Ended else Refused InvalidLog
 end_number (Size t) g = Refused InvalidLog
 
 abbrev pub end_reader : Reader → Reader

@@ -2,7 +2,7 @@
 -- depends.
 -- Assumes nothing.
 use Rattle.std.specs.Prelude.{Bool, List, [], ℕ, take}
-use Rattle.base.specs.Choice.{if◌then◌else◌}
+use Rattle.base.specs.Choice.{when◌then◌else◌}
 use Rattle.log_reader.specs.declared.Reader.{Reader}
 use Rattle.log_reader.specs.declared.Reader.TheVariants as reader
 use Rattle.log_reader.specs.declared.Place.TheVariants.{InPiece, InHeld}
@@ -33,4 +33,4 @@ pub record Seen : Type 0 where
 
 -- given whether it was a state, and the places after the call
 abbrev pub seen : Bool → List ℕ → Answered → Seen
-seen good p r = record { answered = r; held = held_by p r.reader; frame = frame_among p r.answer; refused = if good then [] else p }
+seen good p r = record { answered = r; held = held_by p r.reader; frame = frame_among p r.answer; refused = when good then [] else p }

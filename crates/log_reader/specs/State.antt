@@ -1,7 +1,7 @@
 -- What the code's reader stands for, over the places that hold a frame's bytes (RULES 16.9).
 -- Assumes nothing.
 use Rattle.std.specs.Prelude.{Bool, true, ◌&&◌, ◌||◌, List, ℕ, ◌^◌, leb, ltb, eqb, length, take}
-use Rattle.base.specs.Choice.{if◌then◌else◌}
+use Rattle.base.specs.Choice.{when◌then◌else◌}
 use Rattle.refusals.specs.Row.{number_of}
 use Rattle.refusals.specs.declared.Refusal.{Refusal}
 use Rattle.reading.specs.Reading.{limit}
@@ -35,7 +35,7 @@ can_go_on v g = leb g 4 && ltb v (weight_of g)
 
 -- the bytes held, if any, begin a valid frame of n
 abbrev pub held_fine : ℕ → List ℕ → ℕ → Bool
-held_fine n p k = if eqb k 0 then true else fine n (take k p)
+held_fine n p k = when eqb k 0 then true else fine n (take k p)
 
 -- a log is refused with 9 or 10 and nothing else
 unfoldable pub of_logs : Refusal → Bool

@@ -2,7 +2,7 @@
 -- before a buffer that is too short, 5.
 -- Assumes nothing.
 use Rattle.std.specs.Prelude.{Bool, ◌&&◌, List, [], ℕ, leb, length}
-use Rattle.base.specs.Choice.{if◌then◌else◌}
+use Rattle.base.specs.Choice.{when◌then◌else◌}
 use Rattle.reading.specs.Reading.{limit}
 use Rattle.refusals.specs.declared.Refusal.TheVariants.{InvalidFrame}
 use Rattle.writing.specs.Writing.{Image, bytes, refused}
@@ -18,4 +18,4 @@ unfoldable pub is_frame : List ℕ → Bool
 is_frame c = leb 4 (length c) && leb (length c) limit && fine (length c) c
 
 unfoldable pub entry_image : ℕ → List ℕ → Image
-entry_image seconds c = if is_frame c then bytes (entry_bytes (record { seconds = seconds; frame = c })) else refused InvalidFrame
+entry_image seconds c = when is_frame c then bytes (entry_bytes (record { seconds = seconds; frame = c })) else refused InvalidFrame

@@ -2,7 +2,7 @@
 -- 12 all of the state, as of a state that is refused with 8.
 -- Assumes nothing.
 use Rattle.std.specs.Prelude.{ℕ, List, [], ◌∷◌, eqb}
-use Rattle.base.specs.Choice.{if◌then◌else◌}
+use Rattle.base.specs.Choice.{when◌then◌else◌}
 use Rattle.refusals.specs.Row.{number_of}
 use Rattle.refusals.specs.declared.Refusal.TheVariants.{PositionRange}
 use Rattle.stream.specs.Seen.{Seen, seen}
@@ -18,7 +18,7 @@ pub record SeenAt : Type 0 where
 unfoldable pub if_beyond : Reply → List ℕ → List ℕ
 if_beyond More state = []
 if_beyond (Frame p) state = []
-if_beyond (Refused r) state = if eqb (number_of r) (number_of PositionRange) then state else []
+if_beyond (Refused r) state = when eqb (number_of r) (number_of PositionRange) then state else []
 
 unfoldable pub seen_at : Advanced → List ℕ → SeenAt
 seen_at r places = record {

@@ -2,11 +2,11 @@
 -- Assumes nothing.
 use Rattle.std.specs.Prelude.{ℕ, suc, ◌-◌, ◌/◌, ◌%◌, ◌^◌, ◌<◌, ltb, ℤ, pos, negsuc}
 use Rattle.std.specs.Int.Signed.{mag}
-use Rattle.base.specs.Choice.{if◌then◌else◌}
+use Rattle.base.specs.Choice.{when◌then◌else◌}
 
 -- the signed number that n stands for: n itself in the lower half, n less 256 ^ width in the upper
 unfoldable pub signed_of : ℕ → ℕ → ℤ
-signed_of width n = if ltb n (256 ^ width / 2) then pos n else negsuc (256 ^ width - suc n)
+signed_of width n = when ltb n (256 ^ width / 2) then pos n else negsuc (256 ^ width - suc n)
 
 -- what z leaves modulo 256 ^ width: its low 8 · width bits. (`negsuc n` is −(n + 1).)
 unfoldable pub twos_of : ℕ → ℤ → ℕ

@@ -8,7 +8,7 @@ use Prim.Native.Nat.{ℕ, zero, suc, ◌<◌}
 use native.Mathlib.Omega.{arith}
 use lib.Dec.{T, leb}
 use lib.ListN.{length}
-use Rattle.base.specs.Choice.{if◌then◌else◌}
+use Rattle.base.specs.Choice.{when◌then◌else◌}
 use Rattle.base.proofs.Every.{within}
 use Rattle.packets.specs.Listed.{among, addresses, listed, short_types, extended_types}
 
@@ -18,7 +18,7 @@ twenty_four = refl
 -- how many of the n bytes from b on pass a test
 abbrev how_many : (ℕ → Bool) → ℕ → ℕ → ℕ
 how_many f b zero = 0
-how_many f b (suc n) = if f b then suc (how_many f (suc b) n) else how_many f (suc b) n
+how_many f b (suc n) = when f b then suc (how_many f (suc b) n) else how_many f (suc b) n
 
 pub twenty_four_bytes : how_many listed 0 256 ≡ 24
 unfolding listed

@@ -7,7 +7,7 @@ use Prim.Native.Nat.{ℕ, zero, suc, ◌+◌, ◌-◌, ◌<◌}
 use native.Mathlib.Nat.{zero-add}
 use native.Mathlib.Omega.{arith}
 use lib.ListN.{length, take, drop, length-append}
-use Rattle.base.specs.Choice.{if◌then◌else◌}
+use Rattle.base.specs.Choice.{when◌then◌else◌}
 use Rattle.base.specs.Same.{same_bytes}
 use Rattle.base.proofs.Same.{same_self, same_bytes_lem, bytes_same, same_swap}
 use Rattle.base.proofs.Tests.{by_test}
@@ -152,12 +152,12 @@ agrees_swapped p = same_swap (side_row p.right) (side_row p.left)
 
 -- the sides of a line
 pub swapped_line : (k : ℕ) (p : Pair)
-    → place_line k (swapped p) ≡ (if agrees p then [] else leading k ++ (side_text p.right ++ (bar ++ (side_text p.left ++ line_end))))
+    → place_line k (swapped p) ≡ (when agrees p then [] else leading k ++ (side_text p.right ++ (bar ++ (side_text p.left ++ line_end))))
 unfolding place_line beside
 swapped_line k p = simp (agrees_swapped p)
 
 pub swapped_tail : (s t : List ℕ)
-    → tail_line t s ≡ (if same_bytes s t then [] else tail_word ++ (bare (held_line (length t)) ++ (bar ++ (bare (held_line (length s)) ++ line_end))))
+    → tail_line t s ≡ (when same_bytes s t then [] else tail_word ++ (bare (held_line (length t)) ++ (bar ++ (bare (held_line (length s)) ++ line_end))))
 unfolding tail_line beside
 swapped_tail s t = simp (same_swap t s)
 

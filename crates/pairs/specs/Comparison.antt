@@ -1,7 +1,7 @@
 -- All that the program diff writes for two uploads (RULES 19).
 -- Assumes nothing.
 use Rattle.std.specs.Prelude.{ℕ, suc, ◌+◌, ◌-◌, Bool, List, [], ◌∷◌, ◌++◌, length, take}
-use Rattle.base.specs.Choice.{if◌then◌else◌}
+use Rattle.base.specs.Choice.{when◌then◌else◌}
 use Rattle.base.specs.Same.{same_bytes}
 use Rattle.reading.specs.Reading.{Reading, reading}
 use Rattle.lines.specs.Digits.{decimal}
@@ -39,7 +39,7 @@ beside lead l r = lead ++ (l ++ (bar ++ (r ++ line_end)))
 
 -- the line of place k, none where the pair agrees
 unfoldable pub place_line : ℕ → Pair → List ℕ
-place_line k p = if agrees p then [] else beside (leading k) (side_text p.left) (side_text p.right)
+place_line k p = when agrees p then [] else beside (leading k) (side_text p.left) (side_text p.right)
 
 -- the lines of the places from k on
 unfoldable pub lines_from : ℕ → List Pair → List ℕ
@@ -48,7 +48,7 @@ lines_from k (p ∷ more) = place_line k p ++ lines_from (suc k) more
 
 -- the line of the tails, none where their bytes are the same
 unfoldable pub tail_line : List ℕ → List ℕ → List ℕ
-tail_line s t = if same_bytes s t then [] else beside tail_word (bare (held_line (length s))) (bare (held_line (length t)))
+tail_line s t = when same_bytes s t then [] else beside tail_word (bare (held_line (length s))) (bare (held_line (length t)))
 
 -- the last line
 unfoldable pub last_line : ℕ → ℕ → List ℕ
@@ -56,10 +56,10 @@ last_line agree differ = agree_word ++ (leading agree ++ (differ_word ++ (decima
 
 -- a pair is one more that agrees, or one more that differs
 abbrev pub if_same : Bool → ℕ
-if_same t = if t then 1 else 0
+if_same t = when t then 1 else 0
 
 abbrev pub if_other : Bool → ℕ
-if_other t = if t then 0 else 1
+if_other t = when t then 0 else 1
 
 -- how many pairs agree and differ, that of the tails included
 abbrev pub agreed : Reading → Reading → ℕ

@@ -1,7 +1,7 @@
 -- The answers of two uploads, place by place, and which of them agree (RULES 19).
 -- Assumes nothing.
 use Rattle.std.specs.Prelude.{ℕ, suc, Bool, List, [], ◌∷◌}
-use Rattle.base.specs.Choice.{if◌then◌else◌}
+use Rattle.base.specs.Choice.{when◌then◌else◌}
 use Rattle.base.specs.Same.{same_bytes}
 use Rattle.reading.specs.Answer.{Answer, row}
 use Rattle.reading.specs.Reading.{First, stop, says}
@@ -42,8 +42,8 @@ agrees p = same_bytes (side_row p.left) (side_row p.right)
 -- how many pairs agree, and how many differ
 unfoldable pub agreeing : List Pair → ℕ
 agreeing [] = 0
-agreeing (p ∷ more) = if agrees p then suc (agreeing more) else agreeing more
+agreeing (p ∷ more) = when agrees p then suc (agreeing more) else agreeing more
 
 unfoldable pub differing : List Pair → ℕ
 differing [] = 0
-differing (p ∷ more) = if agrees p then differing more else suc (differing more)
+differing (p ∷ more) = when agrees p then differing more else suc (differing more)

@@ -2,7 +2,7 @@
 -- A record may have any capacity of 32 bits; one that 24 bits don't hold is refused in writing.
 -- Assumes nothing.
 use Rattle.std.specs.Prelude.{ℕ, ◌^◌, List, [], ◌∷◌, ◌++◌, eqb, ltb, ℤ, pos, take}
-use Rattle.base.specs.Choice.{if◌then◌else◌}
+use Rattle.base.specs.Choice.{when◌then◌else◌}
 use Rattle.refusals.specs.Row.{row_of}
 use Rattle.refusals.specs.declared.Refusal.TheVariants.{CapacityRange}
 use Rattle.writing.specs.Writing.{Image, bytes, refused}
@@ -38,7 +38,7 @@ battery_read payload =
 
 -- the fields that are written
 abbrev pub battery_fields : ℕ → List Field
-battery_fields id = if eqb id 0 then short_layout else battery_layout
+battery_fields id = when eqb id 0 then short_layout else battery_layout
 
 abbrev pub battery_bytes : Battery → List ℕ
 battery_bytes x = record_bytes (battery_fields x.id) (battery_values x)
@@ -49,4 +49,4 @@ too_large = 2 ^ 24
 
 -- what there is to write: a capacity that 24 bits don't hold is refused; else the bytes
 unfoldable pub battery_image : Battery → Image
-battery_image x = if ltb x.capacity_used too_large then bytes (battery_bytes x) else refused CapacityRange
+battery_image x = when ltb x.capacity_used too_large then bytes (battery_bytes x) else refused CapacityRange

@@ -7,7 +7,7 @@ use mathlib.Core.List.{List, ◌∷◌}
 use native.Mathlib.Omega.{arith}
 use lib.Dec.{eqb}
 use lib.ListN.{length, get_or}
-use Rattle.base.specs.Choice.{if◌then◌else◌}
+use Rattle.base.specs.Choice.{when◌then◌else◌}
 use Rattle.refusals.specs.declared.Refusal.{Refusal}
 use Rattle.refusals.specs.declared.Refusal.TheVariants.{InvalidSync, InvalidPacketLength, InvalidCrc, InvalidPayloadLength, BufferOverflow, ChannelRange, BadAddress, BadState, InvalidLog, InvalidFrame, CapacityRange, SetChannelRange, PositionRange}
 use Rattle.refusals.specs.Row.{row_of, number_of}
@@ -15,18 +15,18 @@ use Rattle.refusals.specs.Row.{row_of, number_of}
 -- the refusal that a row is of; of a row that no refusal has, any
 abbrev pub refusal_of : List ℕ → Refusal
 refusal_of row =
-    if eqb (get_or row 0 0) 1 then InvalidSync (get_or row 1 0) else
-    if eqb (get_or row 0 0) 2 then InvalidPacketLength (get_or row 1 0) else
-    if eqb (get_or row 0 0) 3 then InvalidCrc (get_or row 1 0) (get_or row 2 0) else
-    if eqb (get_or row 0 0) 4 then InvalidPayloadLength else
-    if eqb (get_or row 0 0) 5 then BufferOverflow else
-    if eqb (get_or row 0 0) 6 then (if eqb (length row) 3 then SetChannelRange (get_or row 1 0) (get_or row 2 0) else ChannelRange (get_or row 1 0)) else
-    if eqb (get_or row 0 0) 7 then BadAddress else
-    if eqb (get_or row 0 0) 8 then BadState else
-    if eqb (get_or row 0 0) 9 then InvalidLog else
-    if eqb (get_or row 0 0) 10 then InvalidFrame else
-    if eqb (get_or row 0 0) 11 then CapacityRange else
-    if eqb (get_or row 0 0) 12 then PositionRange else
+    when eqb (get_or row 0 0) 1 then InvalidSync (get_or row 1 0) else
+    when eqb (get_or row 0 0) 2 then InvalidPacketLength (get_or row 1 0) else
+    when eqb (get_or row 0 0) 3 then InvalidCrc (get_or row 1 0) (get_or row 2 0) else
+    when eqb (get_or row 0 0) 4 then InvalidPayloadLength else
+    when eqb (get_or row 0 0) 5 then BufferOverflow else
+    when eqb (get_or row 0 0) 6 then (when eqb (length row) 3 then SetChannelRange (get_or row 1 0) (get_or row 2 0) else ChannelRange (get_or row 1 0)) else
+    when eqb (get_or row 0 0) 7 then BadAddress else
+    when eqb (get_or row 0 0) 8 then BadState else
+    when eqb (get_or row 0 0) 9 then InvalidLog else
+    when eqb (get_or row 0 0) 10 then InvalidFrame else
+    when eqb (get_or row 0 0) 11 then CapacityRange else
+    when eqb (get_or row 0 0) 12 then PositionRange else
     InvalidSync 0
 
 pub back : (r : Refusal) → refusal_of (row_of r) ≡ r

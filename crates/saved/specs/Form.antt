@@ -2,7 +2,7 @@
 -- in groups of seven bits, then those bytes. The form is the number 64, the position, and then the older form.
 -- Assumes nothing.
 use Rattle.std.specs.Prelude.{ℕ, ◌-◌, Bool, false, ◌&&◌, List, [], ◌++◌, leb, ltb, eqb, length, get_or, drop}
-use Rattle.base.specs.Choice.{if◌then◌else◌}
+use Rattle.base.specs.Choice.{when◌then◌else◌}
 use Rattle.groups.specs.Groups.{groups}
 use Rattle.groups.specs.Reading.{NumberRead, unfinished, ends, malformed, read}
 use Rattle.reading.specs.Positions.{greatest, is_within}
@@ -58,10 +58,10 @@ is_marked form = eqb (get_or form 0 0) mark
 
 -- the position of a string, and its older form. A string that is not marked is the older form alone, at position 0
 unfoldable pub position_in : List ℕ → ℕ
-position_in form = if is_marked form then number_at (read greatest (drop 1 form)) else 0
+position_in form = when is_marked form then number_at (read greatest (drop 1 form)) else 0
 
 unfoldable pub older_in : List ℕ → List ℕ
-older_in form = if is_marked form then behind_number (read greatest (drop 1 form)) else form
+older_in form = when is_marked form then behind_number (read greatest (drop 1 form)) else form
 
 -- a form is accepted where its older form is, and all of its held bytes can be numbered. (No older form is empty, so none with a malformed position is)
 unfoldable pub is_form : ℕ → List ℕ → Bool

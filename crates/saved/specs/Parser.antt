@@ -1,7 +1,7 @@
 -- A restore of the parser by value. (Its save is `save_image` of Save, over its places.)
 -- Assumes nothing.
 use Rattle.std.specs.Prelude.{ℕ, List, length}
-use Rattle.base.specs.Choice.{if◌then◌else◌}
+use Rattle.base.specs.Choice.{when◌then◌else◌}
 use Rattle.base.specs.Parts.{pasted}
 use Rattle.refusals.specs.Row.{row_of}
 use Rattle.refusals.specs.declared.Refusal.TheVariants.{BadState}
@@ -14,6 +14,6 @@ use Rattle.saved.specs.Save.{held_row}
 unfoldable pub resume_of : CrsfParser → List ℕ → List ℕ × CrsfParser
 resume_of p form =
     let held = held_of limit form in
-    if is_form limit form
+    when is_form limit form
     then (held_row (length held), record { buffer = pasted p.buffer 0 held; start = 0; end = length held; position = position_in form })
     else (row_of BadState, p)

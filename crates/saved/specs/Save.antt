@@ -1,7 +1,7 @@
 -- What a save and a restore answer and leave, over lent places (RULES 9.4, 9.5). A save tests 8, then 5.
 -- Assumes nothing.
 use Rattle.std.specs.Prelude.{ℕ, ◌-◌, ◌≤◌, ◌≡◌, List, [], ◌∷◌, length, drop}
-use Rattle.base.specs.Choice.{if◌then◌else◌}
+use Rattle.base.specs.Choice.{when◌then◌else◌}
 use Rattle.base.specs.Parts.{pasted}
 use Rattle.refusals.specs.Row.{row_of}
 use Rattle.refusals.specs.declared.Refusal.TheVariants.{BadState}
@@ -16,12 +16,12 @@ use Rattle.saved.specs.declared.form.Restored.TheVariants.{Held, Refused}
 -- the held bytes can't be numbered
 unfoldable pub save_image : List ℕ → ℕ → ℕ → ℕ → Image
 save_image places start end position =
-    if can_save (length places) start end position then bytes (saved_form position (held_in places start end)) else refused BadState
+    when can_save (length places) start end position then bytes (saved_form position (held_in places start end)) else refused BadState
 
 -- the same of the older form
 unfoldable pub held_image : List ℕ → ℕ → ℕ → Image
 held_image places start end =
-    if is_savable (length places) start end then bytes (held_form (held_in places start end)) else refused BadState
+    when is_savable (length places) start end then bytes (held_form (held_in places start end)) else refused BadState
 
 -- what a restore answers, as a row: 0 and how many bytes are held now, or the refusal's number and what it carries
 abbrev pub held_row : ℕ → List ℕ
@@ -39,15 +39,15 @@ pub record Heads (form : List ℕ) (r : Head) : Type 0 where
 
 -- how many bytes of an accepted older form its count takes up, and 0 for every other string
 unfoldable pub count_size : ℕ → List ℕ → ℕ
-count_size m form = if is_held_form m form then length form - length (held_bytes m form) else 0
+count_size m form = when is_held_form m form then length form - length (held_bytes m form) else 0
 
 -- the row, and the places: the held bytes go to the front, and the places behind them are kept
 unfoldable pub restore_held : List ℕ → List ℕ → List ℕ × List ℕ
 restore_held form places =
     let held = held_bytes (length places) form in
-    if is_held_form (length places) form then (held_row (length held), pasted places 0 held) else (row_of BadState, places)
+    when is_held_form (length places) form then (held_row (length held), pasted places 0 held) else (row_of BadState, places)
 
 unfoldable pub restore_of : List ℕ → List ℕ → List ℕ × List ℕ
 restore_of form places =
     let held = held_of (length places) form in
-    if is_form (length places) form then (held_row (length held), pasted places 0 held) else (row_of BadState, places)
+    when is_form (length places) form then (held_row (length held), pasted places 0 held) else (row_of BadState, places)

@@ -1,7 +1,7 @@
 -- Parts of lent bytes, and what any four bytes or more show as a frame.
 -- Assumes nothing.
 use Rattle.std.specs.Prelude.{ℕ, ◌-◌, Bool, false, List, [], ◌∷◌, length, get_or, ltb}
-use Rattle.base.specs.Choice.{if◌then◌else◌}
+use Rattle.base.specs.Choice.{when◌then◌else◌}
 use Rattle.base.specs.Parts.{part}
 use Rattle.refusals.specs.Row.{row_of}
 use Rattle.refusals.specs.declared.Refusal.TheVariants.{InvalidPayloadLength}
@@ -30,8 +30,8 @@ raw_row (NoView r) = row_of r
 
 -- of four bytes or more: byte 0, byte 2 and the last byte (RULES 8)
 unfoldable pub raw_of : List ℕ → List ℕ
-raw_of s = if ltb (length s) 4 then row_of InvalidPayloadLength else 0 ∷ get_or s 0 0 ∷ get_or s 2 0 ∷ get_or s (length s - 1) 0 ∷ []
+raw_of s = when ltb (length s) 4 then row_of InvalidPayloadLength else 0 ∷ get_or s 0 0 ∷ get_or s 2 0 ∷ get_or s (length s - 1) 0 ∷ []
 
 -- and the bytes between byte 2 and the last
 unfoldable pub payload_of : List ℕ → List ℕ
-payload_of s = if ltb (length s) 4 then [] else part s 3 (length s - 4)
+payload_of s = when ltb (length s) 4 then [] else part s 3 (length s - 4)

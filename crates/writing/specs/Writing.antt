@@ -2,7 +2,7 @@
 -- byte is changed.
 -- Assumes nothing.
 use Rattle.std.specs.Prelude.{ℕ, List, [], ◌∷◌, leb, length}
-use Rattle.base.specs.Choice.{if◌then◌else◌}
+use Rattle.base.specs.Choice.{when◌then◌else◌}
 use Rattle.base.specs.Parts.{pasted}
 use Rattle.refusals.specs.Row.{row_of}
 use Rattle.refusals.specs.declared.Refusal.{Refusal}
@@ -25,5 +25,5 @@ pub data Image : Type 0 where
 
 -- what is said, and the buffer afterwards
 unfoldable pub write_of : Image → List ℕ → List ℕ × List ℕ
-write_of (bytes bs) buffer = if leb (length bs) (length buffer) then (wrote_row (length bs), pasted buffer 0 bs) else (row_of BufferOverflow, buffer)
+write_of (bytes bs) buffer = when leb (length bs) (length buffer) then (wrote_row (length bs), pasted buffer 0 bs) else (row_of BufferOverflow, buffer)
 write_of (refused r) buffer = (row_of r, buffer)

@@ -3,7 +3,7 @@
 use mathlib.Core.Path.{◌≡◌}
 use Prim.Native.Nat.{◌+◌, ◌-◌, ◌≤◌}
 use lib.ListN.{drop}
-use Rattle.bursts.specs.Burst.{bad, first_bad, sixteens}
+use Rattle.bursts.specs.Burst.{first_bad, sixteens}
 use Rattle.bursts.proofs.first_bad.Given as goal
 
 abbrev pub invariant-loop-k : goal.invariant-loop-k

@@ -1,6 +1,6 @@
 use mathlib.Core.Path.{◌≡◌, sym, ap, ◌∙◌}
 use mathlib.Core.List.{List, []}
-use Prim.Native.Nat.{ℕ, ◌-◌, ◌*◌}
+use Prim.Native.Nat.{ℕ, ◌*◌}
 use native.Mathlib.Omega.{arith}
 use borrow.Author.Tests.{ltb-false}
 use lib.ListN.{length, get_or}
@@ -13,7 +13,7 @@ use Rattle.channels.specs.Channels.{channels_count, low_bits, first_above}
 use Rattle.channels.specs.declared.RcChannelsPacked.{RcChannelsPacked}
 use Rattle.bursts.specs.Burst.{frame_size, set_frame, set_frames, bad, sixteens}
 use Rattle.bursts.proofs.Sixteens.{length_sixteens, sixteens_at}
-use Rattle.bursts.proofs.Turns.{put_next, filled, length_filled, fill_next}
+use Rattle.bursts.proofs.Turns.{put_next, length_filled, fill_next}
 use Rattle.bursts.proofs.put_sets.Goals as goal
 
 pub loop-k-init : goal.loop-k-init

@@ -10,14 +10,14 @@ use lib.Dec.{T}
 use lib.Ieee.Bits.{is_true, is_false}
 use mir.Val.{has_key}
 use types.Run.{OneOf}
-use Rattle.base.specs.Choice.{if◌then◌else◌}
+use Rattle.base.specs.Choice.{when◌then◌else◌}
 use Rattle.packets.specs.Listed.{among, addresses, listed}
 use Rattle.base.proofs.Every.{every, within, at_key, no_key}
 use Rattle.packets.proofs.is_address.Goals as goal
 
 abbrev lone : List ℕ → List ℕ
 lone [] = []
-lone (k ∷ ks) = if among (suc k) addresses || among k (map suc addresses) then lone ks else k ∷ lone ks
+lone (k ∷ ks) = when among (suc k) addresses || among k (map suc addresses) then lone ks else k ∷ lone ks
 
 abbrev singles : List ℕ
 singles = lone addresses
