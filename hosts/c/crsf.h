@@ -3,7 +3,7 @@
  * read kit logs.
  *
  * Link the archive: libcrsf.a where `./install PREFIX` put it (`pkg-config --cflags --libs crsf` has the flags), or target/staticlib/libhost.a
- * where `rt staticlib host` wrote it. It is for x86-64 Linux, allocates nothing, keeps nothing between calls, and needs nothing from outside, not
+ * where `hosts/archive` wrote it. It is for x86-64 Linux, allocates nothing, keeps nothing between calls, and needs nothing from outside, not
  * even memcpy.
  *
  *     // Hands every frame of a piece to on_frame, with where it begins in the stream. Answers 0; or 8 or 12, with nothing of the piece taken.

@@ -26,7 +26,7 @@ fn main() {
         }
     }
     missing(&format!(
-        "no archive libcrsf.a or libhost.a in {}. Write it first: `rt staticlib host` in the repository, or `./install PREFIX` there. \
+        "no archive libcrsf.a or libhost.a in {}. Write it first: `hosts/archive` in the repository, or `./install PREFIX` there. \
          Or name the folder that has it, as CRSF_ARCHIVE_DIR=PREFIX/lib",
         folder.display()
     ));

@@ -3,7 +3,7 @@
 //!
 //! [`CrsfParser::next_raw_packet`] cuts a stream into frames, and [`CrsfParser::next_answer`] also says where in the stream each answer began.
 //!
-//! The archive comes first: `rt staticlib host` writes it, and `./install PREFIX` installs it. It is looked for in the folder that `CRSF_ARCHIVE_DIR`
+//! The archive comes first: `hosts/archive` writes it, and `./install PREFIX` installs it. It is looked for in the folder that `CRSF_ARCHIVE_DIR`
 //! names; without that variable in the repository's `target/staticlib`, or, from an installed package, in `PREFIX/lib`.
 #![deny(missing_debug_implementations, missing_docs)]
 
