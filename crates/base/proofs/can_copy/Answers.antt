@@ -2,7 +2,6 @@
 use borrow.Author.Tests.{le-leb, lt-leb}
 use Rattle.base.proofs.can_copy.Goals as goal
 
--- `base::can_copy` meets its contract. Assumes nothing.
 pub returns-then-elements-count : goal.returns-then-elements-count
 returns-then-elements-count c =
     let a = c.args in

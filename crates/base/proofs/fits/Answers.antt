@@ -5,7 +5,6 @@ use borrow.Author.Tests.{lt-leb}
 use Rattle.base.proofs.Parts.{fits_left}
 use Rattle.base.proofs.fits.Goals as goal
 
--- `base::fits` meets its contract. Assumes nothing.
 pub returns-then-size-at : goal.returns-then-size-at
 returns-then-size-at c =
     let a = c.args in

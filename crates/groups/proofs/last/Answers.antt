@@ -5,7 +5,6 @@ use Rattle.groups.specs.Reading.{valued}
 use Rattle.groups.proofs.Steps.{zero_last_lem, zero_first, some_last}
 use Rattle.groups.proofs.last.Goals as goal
 
--- `groups::last` meets its contract. Assumes nothing.
 pub returns-then-weight-gt1 : goal.returns-then-weight-gt1
 returns-then-weight-gt1 c =
     let a = c.args in zero_last_lem a.greatest a.value a.weight a.byte (omega arith) c.if-weight-gt1.true

@@ -3,7 +3,6 @@ use Rattle.host_log.specs.State.{has_form}
 use borrow.Author.Tests.{eq-eqb, ne_eqb}
 use Rattle.host_log.proofs.has_form.Goals as goal
 
--- `host_log::has_form` meets its contract. Assumes nothing.
 pub returns-then-state-ne-SIZE : goal.returns-then-state-ne-SIZE
 unfolding has_form
 returns-then-state-ne-SIZE c =

@@ -2,7 +2,6 @@
 use Rattle.host_log.proofs.States.{reset_refused, reset_done}
 use Rattle.host_log.proofs.reset.Goals as goal
 
--- `host_log::reset` meets its contract. Assumes nothing.
 pub returns-then-state-ne-SIZE : goal.returns-then-state-ne-SIZE
 returns-then-state-ne-SIZE c =
     reset_refused _ c.if-state-ne-SIZE.true

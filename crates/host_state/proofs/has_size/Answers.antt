@@ -3,7 +3,6 @@ use mathlib.Core.Path.{refl}
 use Rattle.host_state.specs.State.{has_size}
 use Rattle.host_state.proofs.has_size.Goals as goal
 
--- `host_state::has_size` meets its contract. Assumes nothing.
 pub returns : goal.returns
 unfolding has_size
 returns c =

@@ -7,7 +7,6 @@ use borrow.Author.Tests.{le-leb}
 use borrow.Author.Tests.{lt-leb}
 use Rattle.log_reader.proofs.can_go_on.Goals as goal
 
--- `log_reader::can_go_on` meets its contract. Assumes nothing.
 pub returns-then-groups-gt4 : goal.returns-then-groups-gt4
 returns-then-groups-gt4 c =
     simp (lt-leb _ 4 c.if-groups-gt4.true)

@@ -4,7 +4,6 @@ use native.Mathlib.Omega.{arith}
 use Rattle.log_reader.proofs.Readers.{state_short, state_low, state_high, state_full, state_held, state_number, state_refused, state_ended}
 use Rattle.log_reader.proofs.is_state.Goals as goal
 
--- `log_reader::is_state` meets its contract. Assumes nothing.
 pub returns-then-places-lt-LIMIT : goal.returns-then-places-lt-LIMIT
 returns-then-places-lt-LIMIT c =
     let a = c.args in state_short a.places.now a.reader (omega arith)

@@ -8,8 +8,6 @@ use Rattle.micros.specs.Micros.{microseconds_row}
 use Rattle.micros.proofs.Formula.{formula, exact}
 use Rattle.micros.proofs.to_microseconds.Goals as goal
 
--- `micros::to_microseconds` meets its contract: up to 2047 its formula is exact.
--- Assumes nothing.
 pub returns-then-raw-gt-GREATEST : goal.returns-then-raw-gt-GREATEST
 unfolding microseconds_row
 returns-then-raw-gt-GREATEST c =

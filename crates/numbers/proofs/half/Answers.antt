@@ -7,7 +7,6 @@ use Rattle.numbers.proofs.half.Goals as goal
 only_four : (w : ℕ) → 0 < w → w ≤ 4 → (w ≡ 1 → ⊥) → (w ≡ 2 → ⊥) → (w ≡ 3 → ⊥) → w ≡ 4
 only_four w low high n1 n2 n3 = omega arith
 
--- `numbers::half` meets its contract: each width's half is computed. Assumes nothing.
 pub returns-in-1 : goal.returns-in-1
 returns-in-1 c =
     rw c.in-1.is

@@ -3,7 +3,6 @@ use native.Mathlib.Omega.{arith}
 use Rattle.parser.specs.Parser.{held_count}
 use Rattle.parser.proofs.held_len.Goals as goal
 
--- `parser::held_len` meets its contract. Assumes nothing.
 pub returns-then-start-end : goal.returns-then-start-end
 unfolding held_count
 returns-then-start-end c =

@@ -3,7 +3,6 @@ use mathlib.Core.Path.{refl}
 use Rattle.parser.specs.Parser.{empty}
 use Rattle.parser.proofs.new.Goals as goal
 
--- `parser::new` meets its contract. Assumes nothing.
 pub returns : goal.returns
 unfolding empty
 returns c =

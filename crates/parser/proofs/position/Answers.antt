@@ -3,7 +3,6 @@ use mathlib.Core.Path.{refl}
 use Rattle.parser.specs.Parser.{position_of}
 use Rattle.parser.proofs.position.Goals as goal
 
--- `parser::position` meets its contract. Assumes nothing.
 pub returns : goal.returns
 unfolding position_of
 returns c =

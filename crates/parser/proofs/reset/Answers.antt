@@ -3,7 +3,6 @@ use mathlib.Core.Path.{refl}
 use Rattle.parser.specs.Parser.{reset_of}
 use Rattle.parser.proofs.reset.Goals as goal
 
--- `parser::reset` meets its contract. Assumes nothing.
 pub returns : goal.returns
 unfolding reset_of
 returns c =

@@ -7,7 +7,6 @@ use Rattle.valid.proofs.Decisions.{too_short_lem, too_long, unlisted, other_size
 use mathlib.Core.Bool.{not}
 use Rattle.valid.proofs.is_valid.Goals as goal
 
--- `valid::is_valid` meets its contract: each return by a law of Decisions. Assumes nothing.
 pub returns-then-n-lt4 : goal.returns-then-n-lt4
 returns-then-n-lt4 c =
     let a = c.args in too_short_lem a.limit a.bytes.now c.if-n-lt4.true

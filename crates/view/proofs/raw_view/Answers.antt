@@ -3,7 +3,6 @@ use borrow.Author.Tests.{lt-ltb, le-ltb}
 use Rattle.view.specs.View.{raw_row, raw_of}
 use Rattle.view.proofs.raw_view.Goals as goal
 
--- `view::raw_view` meets its contract. Assumes nothing.
 pub returns-then-n-lt4 : goal.returns-then-n-lt4
 unfolding raw_row raw_of
 returns-then-n-lt4 c =

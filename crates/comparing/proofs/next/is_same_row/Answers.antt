@@ -5,7 +5,6 @@ use lib.Dec.{eqb}
 use borrow.Author.Tests.{eq-eqb, ne_eqb}
 use Rattle.comparing.proofs.next.is_same_row.Goals as goal
 
--- `comparing::next::is_same_row` meets its contract. Assumes nothing.
 pub returns-then-x-y : goal.returns-then-x-y
 returns-then-x-y c =
     simp (ne_eqb _ _ c.if-x-y.true)

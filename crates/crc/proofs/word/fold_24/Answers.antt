@@ -6,7 +6,6 @@ use Rattle.crc.specs.Word.{residue}
 use Rattle.crc.proofs.Folds.{fold}
 use Rattle.crc.proofs.word.fold_24.Goals as goal
 
--- `crc::word::fold_24` meets its contract: it is tried at each bit. Assumes nothing.
 pub returns : goal.returns
 unfolding residue shifts shift_bit
 returns c =

@@ -7,7 +7,6 @@ use Rattle.crc.proofs.Shifts.{shifts_linear}
 use Rattle.crc.proofs.Residue.{word_check_linear}
 use Rattle.crc.proofs.word.times_x64.Goals as goal
 
--- `crc::word::times_x64` meets its contract: it is tried at each bit. Assumes nothing.
 pub returns : goal.returns
 unfolding residue word_check shifts shift_bit
 returns c =

@@ -2,7 +2,6 @@
 use borrow.Author.Tests.{eq-eqb, ne_eqb}
 use Rattle.host_log.proofs.head.reader_of.Goals as goal
 
--- `host_log::head::reader_of` meets its contract. Assumes nothing.
 pub returns-then-head-eq0 : goal.returns-then-head-eq0
 returns-then-head-eq0 c =
     simp (eq-eqb _ _ c.if-head-eq0.true)

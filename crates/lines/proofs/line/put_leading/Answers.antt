@@ -4,7 +4,6 @@ use Rattle.lines.proofs.Puts.{puts_then}
 use Rattle.lines.proofs.Digits.{length_leading}
 use Rattle.lines.proofs.line.put_leading.Goals as goal
 
--- `lines::line::put_leading` meets its contract. Assumes nothing.
 pub put_digits-next-requires : goal.put_digits-next-requires
 put_digits-next-requires c =
     omega (arith, c.requires, length_leading c.args.n)

@@ -3,7 +3,6 @@ use mathlib.Core.Logic.{inl, inr}
 use Rattle.log_reader.proofs.Readers.{means_no_frame, means_frame}
 use Rattle.log_reader.proofs.number.frame_of.Goals as goal
 
--- `log_reader::number::frame_of` meets its contract. Assumes nothing.
 pub returns-then-size-lt4 : goal.returns-then-size-lt4
 returns-then-size-lt4 c =
     means_no_frame c.args.seconds c.args.n (inl c.if-size-lt4.true)

@@ -3,7 +3,6 @@ use native.Mathlib.Omega.{arith}
 use Rattle.base.proofs.Every.{only}
 use Rattle.log_reader.proofs.number.weight_of.Goals as goal
 
--- `log_reader::number::weight_of` meets its contract. Assumes nothing.
 pub returns-in-0 : goal.returns-in-0
 returns-in-0 c =
     rw c.in-0.is

@@ -4,7 +4,6 @@ use native.Mathlib.Omega.{arith}
 use Rattle.saved.proofs.Forms.{no_limit, unfinished_size, malformed_size, number_size, other_size, number_inside}
 use Rattle.saved.proofs.held.count_size.Goals as goal
 
--- `saved::held::count_size` meets its contract. Assumes nothing.
 pub returns-then-limit-eq0 : goal.returns-then-limit-eq0
 returns-then-limit-eq0 c =
     no_limit c.args.form.now (omega arith)

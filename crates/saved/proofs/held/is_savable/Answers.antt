@@ -3,7 +3,6 @@ use borrow.Author.Tests.{le-leb, lt-leb}
 use Rattle.saved.specs.Form.{is_savable}
 use Rattle.saved.proofs.held.is_savable.Goals as goal
 
--- `saved::held::is_savable` meets its contract. Assumes nothing.
 pub returns-then-end-start : goal.returns-then-end-start
 unfolding is_savable
 returns-then-end-start c =

@@ -3,7 +3,6 @@ use native.Mathlib.Omega.{arith}
 use borrow.Author.Tests.{le-leb, lt-leb, le-ltb}
 use Rattle.stream.proofs.step.is_span.Goals as goal
 
--- `stream::step::is_span` meets its contract: where start and end are the same, only the end is left to test. Assumes nothing.
 pub returns-then-limit-lt4 : goal.returns-then-limit-lt4
 returns-then-limit-lt4 c =
     simp (lt-leb 4 _ c.if-limit-lt4.true)

@@ -4,8 +4,6 @@ use Rattle.positions.specs.Gps.{gps_layout, gps_values, gps_decoded}
 use Rattle.layout.proofs.Readers.{got_from, too_short_lem, all_got}
 use Rattle.positions.proofs.gps.Gps.from_bytes.Goals as goal
 
--- `positions::gps::Gps::from_bytes` meets its contract: each field is read at its place of the layout.
--- Assumes nothing.
 pub returns-then-payload-lt-MIN_PAYLOAD_SIZE : goal.returns-then-payload-lt-MIN_PAYLOAD_SIZE
 unfolding gps_decoded
 returns-then-payload-lt-MIN_PAYLOAD_SIZE c =

@@ -4,8 +4,6 @@ use borrow.Author.Rules.{rules}
 use Rattle.positions.specs.Gps.{gps_values}
 use Rattle.positions.proofs.gps.Gps.new.Goals as goal
 
--- `positions::gps::Gps::new` meets its contract.
--- Assumes nothing.
 pub returns : goal.returns
 unfolding gps_values
 returns c =

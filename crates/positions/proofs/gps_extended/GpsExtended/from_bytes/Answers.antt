@@ -4,8 +4,6 @@ use Rattle.positions.specs.GpsExtended.{gps_extended_layout, gps_extended_values
 use Rattle.layout.proofs.Readers.{got_from, too_short_lem, all_got}
 use Rattle.positions.proofs.gps_extended.GpsExtended.from_bytes.Goals as goal
 
--- `positions::gps_extended::GpsExtended::from_bytes` meets its contract: each field is read at its place of the layout.
--- Assumes nothing.
 pub returns-then-payload-lt-MIN_PAYLOAD_SIZE : goal.returns-then-payload-lt-MIN_PAYLOAD_SIZE
 unfolding gps_extended_decoded
 returns-then-payload-lt-MIN_PAYLOAD_SIZE c =

@@ -5,8 +5,6 @@ use Rattle.positions.specs.GpsExtended.{gps_extended_layout, gps_extended_values
 use Rattle.layout.proofs.Writers.{no_room, wrote_in_two}
 use Rattle.positions.proofs.gps_extended.GpsExtended.to_bytes.Goals as goal
 
--- `positions::gps_extended::GpsExtended::to_bytes` meets its contract: one part of the layout after the other.
--- Assumes nothing.
 pub returns-then-buffer-lt-MIN_PAYLOAD_SIZE : goal.returns-then-buffer-lt-MIN_PAYLOAD_SIZE
 unfolding gps_extended_values
 returns-then-buffer-lt-MIN_PAYLOAD_SIZE c =

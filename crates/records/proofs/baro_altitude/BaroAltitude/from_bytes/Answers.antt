@@ -4,8 +4,6 @@ use Rattle.records.specs.BaroAltitude.{baro_altitude_layout, baro_altitude_value
 use Rattle.layout.proofs.Readers.{got_from, too_short_lem, all_got}
 use Rattle.records.proofs.baro_altitude.BaroAltitude.from_bytes.Goals as goal
 
--- `records::baro_altitude::BaroAltitude::from_bytes` meets its contract: each field is read at its place of the layout.
--- Assumes nothing.
 pub returns-then-payload-lt-MIN_PAYLOAD_SIZE : goal.returns-then-payload-lt-MIN_PAYLOAD_SIZE
 unfolding baro_altitude_decoded
 returns-then-payload-lt-MIN_PAYLOAD_SIZE c =

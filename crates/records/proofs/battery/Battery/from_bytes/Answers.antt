@@ -12,8 +12,6 @@ use Rattle.records.specs.Battery.{battery_layout, short_layout, battery_values, 
 use Rattle.layout.proofs.Readers.{got_from, got}
 use Rattle.records.proofs.battery.Battery.from_bytes.Goals as goal
 
--- `records::battery::Battery::from_bytes` meets its contract: each field is read at its place of the layout.
--- Assumes nothing.
 pub returns-then-payload-lt-MIN_PAYLOAD_SIZE : goal.returns-then-payload-lt-MIN_PAYLOAD_SIZE
 unfolding battery_decoded battery_read
 returns-then-payload-lt-MIN_PAYLOAD_SIZE c =

@@ -4,8 +4,6 @@ use borrow.Author.Rules.{rules}
 use Rattle.records.specs.Battery.{battery_values}
 use Rattle.records.proofs.battery.Battery.new.Goals as goal
 
--- `records::battery::Battery::new` meets its contract.
--- Assumes nothing.
 pub returns : goal.returns
 unfolding battery_values
 returns c =

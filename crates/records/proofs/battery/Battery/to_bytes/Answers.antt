@@ -12,9 +12,6 @@ use Rattle.layout.proofs.Writers.{put_from, put_fields, no_room, wrote, wrote_in
 use Rattle.records.proofs.BatteryLaws.{image_refused, image_short, image_long}
 use Rattle.records.proofs.battery.Battery.to_bytes.Goals as goal
 
--- `records::battery::Battery::to_bytes` meets its contract: a capacity that is too large is refused; else the id goes behind the other fields, where
--- there is one.
--- Assumes nothing.
 pub returns-then-self-gt-MAX_CAPACITY : goal.returns-then-self-gt-MAX_CAPACITY
 returns-then-self-gt-MAX_CAPACITY c =
     let a = c.args in

@@ -4,8 +4,6 @@ use Rattle.records.specs.LinkStatistics.{link_statistics_layout, link_statistics
 use Rattle.layout.proofs.Readers.{got_from, too_short_lem, all_got}
 use Rattle.records.proofs.link_statistics.LinkStatistics.from_bytes.Goals as goal
 
--- `records::link_statistics::LinkStatistics::from_bytes` meets its contract: each field is read at its place of the layout.
--- Assumes nothing.
 pub returns-then-payload-lt-MIN_PAYLOAD_SIZE : goal.returns-then-payload-lt-MIN_PAYLOAD_SIZE
 unfolding link_statistics_decoded
 returns-then-payload-lt-MIN_PAYLOAD_SIZE c =

@@ -5,8 +5,6 @@ use Rattle.records.specs.LinkStatistics.{link_statistics_layout, link_statistics
 use Rattle.layout.proofs.Writers.{no_room, wrote_in_two}
 use Rattle.records.proofs.link_statistics.LinkStatistics.to_bytes.Goals as goal
 
--- `records::link_statistics::LinkStatistics::to_bytes` meets its contract: one part of the layout after the other.
--- Assumes nothing.
 pub returns-then-buffer-lt-MIN_PAYLOAD_SIZE : goal.returns-then-buffer-lt-MIN_PAYLOAD_SIZE
 unfolding link_statistics_values
 returns-then-buffer-lt-MIN_PAYLOAD_SIZE c =
