@@ -1,5 +1,3 @@
-pub mod Signed
-pub mod Raised
 pub mod Laws
 pub mod Edges
 pub mod Unique

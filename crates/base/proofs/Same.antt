@@ -1,16 +1,22 @@
--- Strings pass the test just where they are the same; and the test byte by byte.
+-- Strings pass the test just where they are the same; and the test is the code's `==`.
 -- Assumes nothing.
 use mathlib.Core.Path.{◌≡◌, refl, sym, ap, ap₂, ◌∙◌}
-use mathlib.Core.Bool.{Bool, true, false, ◌&&◌, and-false, true≢false}
+use mathlib.Core.Bool.{Bool, true, false, ◌&&◌, true≢false}
 use mathlib.Core.List.{List, [], ◌∷◌}
-use Prim.Native.Nat.{ℕ, suc, ◌+◌, ◌<◌}
-use native.Mathlib.Numerals.{add-one}
+use Prim.Native.Nat.{ℕ}
 use borrow.Author.Tests.{eqb-true, eq-eqb}
 use lib.Dec.{eqb}
-use lib.ListN.{length, get_or, drop}
-use lib.Seq.{drop-cons}
+use lib.Pointwise.{pointwise}
 use Rattle.base.specs.Same.{same_bytes}
 use Rattle.base.proofs.Tests.{by_test}
+
+-- the code's `==` of slices is the test
+pub same_as_slices : (xs ys : List ℕ) → pointwise eqb xs ys ≡ same_bytes xs ys
+unfolding same_bytes
+same_as_slices [] [] = refl
+same_as_slices [] (y ∷ ys) = refl
+same_as_slices (x ∷ xs) [] = refl
+same_as_slices (x ∷ xs) (y ∷ ys) = ap (λ (t : Bool). eqb x y && t) (same_as_slices xs ys)
 
 pub same_bytes_lem : (xs ys : List ℕ) → same_bytes xs ys ≡ true → xs ≡ ys
 unfolding same_bytes
@@ -39,20 +45,3 @@ both_or_none false false f g = refl
 pub same_swap : (xs ys : List ℕ) → same_bytes xs ys ≡ same_bytes ys xs
 same_swap xs ys =
     both_or_none (same_bytes xs ys) (same_bytes ys xs) (λ e. bytes_same ys xs (sym (same_bytes_lem xs ys e))) (λ e. bytes_same xs ys (sym (same_bytes_lem ys xs e)))
-
-pub other_length : (xs ys : List ℕ) → (length xs ≡ length ys → ⊥) → same_bytes xs ys ≡ false
-unfolding same_bytes
-other_length [] [] d = absurd (d refl)
-other_length [] (y ∷ ys) d = refl
-other_length (x ∷ xs) [] d = refl
-other_length (x ∷ xs) (y ∷ ys) d =
-    ap (λ t. eqb x y && t) (other_length xs ys (λ e. d (ap suc e))) ∙ and-false (eqb x y)
-
--- the bytes at a place, and those behind it
-pub at_place : (xs ys : List ℕ) (i : ℕ) → i < length xs → i < length ys
-    → same_bytes (drop i xs) (drop i ys) ≡ (eqb (get_or xs i 0) (get_or ys i 0) && same_bytes (drop (i + 1) xs) (drop (i + 1) ys))
-unfolding same_bytes
-at_place xs ys i p q =
-    ap₂ same_bytes
-    (drop-cons xs i 0 p ∙ ap (λ (n : ℕ). get_or xs i 0 ∷ drop n xs) (sym (add-one i)))
-    (drop-cons ys i 0 q ∙ ap (λ (n : ℕ). get_or ys i 0 ∷ drop n ys) (sym (add-one i)))

@@ -1,17 +1,21 @@
 -- What there is to write of a burst, by what is refused first.
 -- Assumes nothing.
-use mathlib.Core.Path.{◌≡◌}
+use Rattle.std.specs.Prelude.{Option, Some, None}
+use mathlib.Core.Path.{◌≡◌, ap}
 use mathlib.Core.Bool.{true, false}
 use mathlib.Core.List.{List, []}
 use Prim.Native.Nat.{ℕ, ◌≤◌, ◌<◌}
-use borrow.Author.Tests.{le-ltb, lt-ltb}
+use native.Mathlib.Omega.{arith}
+use borrow.Author.Tests.{le-ltb, lt-ltb, ltb-true, ltb-false}
+use lib.Dec.{ltb}
 use lib.ListN.{length, get_or, take}
+use Rattle.base.proofs.Tests.{by_test}
 use Rattle.packets.specs.Listed.{listed}
 use Rattle.reading.specs.Frame.{joined}
 use Rattle.refusals.specs.declared.Refusal.TheVariants.{InvalidPayloadLength, BadAddress, SetChannelRange}
 use Rattle.writing.specs.Writing.{bytes, refused}
 use Rattle.channels.specs.Channels.{first_above}
-use Rattle.bursts.specs.Burst.{most_sets, first_bad, set_frames, sets_image, burst_image}
+use Rattle.bursts.specs.Burst.{most_sets, first_bad, place_bad, set_frames, sets_image, burst_image}
 
 module _ (dest : ℕ) (sets : List (List ℕ)) where
   pub sets_refused : first_bad sets < length sets → sets_image dest sets ≡ refused (SetChannelRange (first_bad sets) (first_above (get_or sets (first_bad sets) [])))
@@ -34,3 +38,28 @@ module _ (dest : ℕ) (sets : List (List ℕ)) where
     pub counted : listed dest ≡ true → count ≤ most_sets → burst_image dest sets count ≡ sets_image dest (take count sets)
     unfolding burst_image
     counted address few = simp (address, le-ltb most_sets count few)
+
+abbrev pair_in : Option (ℕ × ℕ) → ℕ × ℕ
+pair_in None = (0, 0)
+pair_in (Some p) = p
+
+-- the first bad set and its first bad channel, where both are known
+module _ (sets : List (List ℕ)) where
+  pub place_is_bad : (k i : ℕ) → k < length sets → first_bad sets ≡ k → first_above (get_or sets k []) ≡ i → Some (k, i) ≡ place_bad sets
+  place_is_bad k i less set channel = rw (set, channel) (simp (lt-ltb k (length sets) less))
+
+  pub none_is_bad : length sets ≤ first_bad sets → None ≡ place_bad sets
+  none_is_bad none = simp (le-ltb (first_bad sets) (length sets) none)
+
+  -- and what is known where they were found, or none was
+  pub bad_found : {k i : ℕ} → place_bad sets ≡ Some (k, i) → (first_bad sets < length sets) × (first_bad sets ≡ k) × (first_above (get_or sets (first_bad sets) []) ≡ i)
+  bad_found {k} {i} e =
+      by_test (ltb (first_bad sets) (length sets))
+      (λ t. let same = simp t at e in (ltb-true (first_bad sets) (length sets) t, ap (λ (o : Option (ℕ × ℕ)). (pair_in o).0) same, ap (λ (o : Option (ℕ × ℕ)). (pair_in o).1) same))
+      (λ t. let none = simp t at e in let z : ◌≡◌ {A = ℕ} 0 1 = cc in absurd (omega arith))
+
+  pub bad_none : place_bad sets ≡ None → length sets ≤ first_bad sets
+  bad_none e =
+      by_test (ltb (first_bad sets) (length sets))
+      (λ t. let some = simp t at e in let z : ◌≡◌ {A = ℕ} 0 1 = cc in absurd (omega arith))
+      (λ t. ltb-false (first_bad sets) (length sets) t)

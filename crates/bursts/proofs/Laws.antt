@@ -1,6 +1,7 @@
 -- What is written of a burst: the single frames' bytes, joined; they are read as exactly those frames, in order, with nothing left. Sets beyond the count
 -- are not looked at, and a refused burst changes no byte.
 -- Assumes nothing.
+use Rattle.std.specs.Prelude.{Ok, Err}
 use mathlib.Core.Path.{◌≡◌, refl, sym, ap, ◌∙◌}
 use mathlib.Core.Bool.{true}
 use mathlib.Core.List.{List, [], ◌∷◌, ◌++◌, map}
@@ -21,7 +22,6 @@ use Rattle.reading.specs.Frame.{AllValid, joined}
 use Rattle.reading.proofs.Frame.{frames_read, only_frames}
 use Rattle.refusals.specs.declared.Refusal.{Refusal}
 use Rattle.writing.specs.Writing.{Image, bytes, wrote_row, written_row, write_of}
-use Rattle.writing.specs.declared.Written.TheVariants.{Wrote, Refused}
 use Rattle.writing.proofs.Writing.{writes}
 use Rattle.writing.proofs.Left.{no_bytes, same_bytes_lem, wrote_bytes, at_front, kept}
 use Rattle.channels.specs.Channels.{channels_type, channels_count, channels_size, channel_bytes, first_above, channels_image}
@@ -118,7 +118,7 @@ module _ {dest : ℕ} {sets : List (List ℕ)} {bs : List ℕ} (b : BurstOf dest
 
 -- so where a call says that it wrote n bytes, the first n of the buffer are read as the frames of the counted sets, and nothing is held
 pub written_read : (dest : ℕ) (sets : List (List ℕ)) (count : ℕ) (buffer : List ℕ) (n : ℕ) {after : List ℕ}
-    → (written_row (Wrote n), after) ≡ write_of (burst_image dest sets count) buffer
+    → (written_row (Ok n), after) ≡ write_of (burst_image dest sets count) buffer
     → reading limit (take n after) ≡ record { answers = map Frame (set_frames dest (take count sets)); tail = [] }
 written_read dest sets count buffer n e =
     let w = wrote_bytes (burst_image dest sets count) buffer n e in
@@ -205,9 +205,9 @@ values_beyond dest numbers more count enough =
 -- ---- a refused burst changes no byte
 
 pub refused_kept : (dest : ℕ) (sets : List (List ℕ)) (count : ℕ) (r : Refusal) {buffer after : List ℕ}
-    → (written_row (Refused r), after) ≡ write_of (burst_image dest sets count) buffer → after ≡ buffer
+    → (written_row (Err r), after) ≡ write_of (burst_image dest sets count) buffer → after ≡ buffer
 refused_kept dest sets count = kept (burst_image dest sets count)
 
 pub values_kept : (dest : ℕ) (numbers : List ℕ) (count : ℕ) (r : Refusal) {buffer after : List ℕ}
-    → (written_row (Refused r), after) ≡ write_of (values_image dest numbers count) buffer → after ≡ buffer
+    → (written_row (Err r), after) ≡ write_of (values_image dest numbers count) buffer → after ≡ buffer
 values_kept dest numbers count = kept (values_image dest numbers count)

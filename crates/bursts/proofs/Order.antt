@@ -1,6 +1,7 @@
 -- THE ORDER OF REFUSALS: the address (7), the count (4), the first channel that is too large (6, with its set and its place there), the room (5); the
 -- buffer stays as it was.
 -- Assumes nothing.
+use Rattle.std.specs.Prelude.{Err}
 use mathlib.Core.Path.{◌≡◌, refl, sym, ap, ◌∙◌}
 use mathlib.Core.Bool.{true, false}
 use mathlib.Core.List.{List, [], ◌∷◌}
@@ -15,7 +16,6 @@ use Rattle.refusals.specs.Row.{row_of}
 use Rattle.refusals.specs.declared.Refusal.{Refusal}
 use Rattle.refusals.specs.declared.Refusal.TheVariants.{InvalidPayloadLength, BufferOverflow, SetChannelRange, BadAddress}
 use Rattle.writing.specs.Writing.{Image, bytes, refused, written_row, write_of}
-use Rattle.writing.specs.declared.Written.TheVariants.{Refused}
 use Rattle.writing.proofs.Writing.{overflows, refuses}
 use Rattle.channels.specs.Channels.{channels_count, greatest, first_above}
 use Rattle.bursts.proofs.Sixteens.{values_address, values_count, values_short, values_sets}
@@ -58,7 +58,7 @@ module _ (dest : ℕ) (sets : List (List ℕ)) (k i : ℕ) (f : FirstAt sets k i
       ∙ ap (λ (j : ℕ). refused (SetChannelRange j (first_above (get_or sets j [])))) set_is
       ∙ ap (λ (j : ℕ). refused (SetChannelRange k j)) channel_is
 
-so : {image answered : Image} (r : Refusal) (buffer : List ℕ) → image ≡ answered → (written_row (Refused r), buffer) ≡ write_of answered buffer
+so : {image answered : Image} (r : Refusal) (buffer : List ℕ) → image ≡ answered → (written_row (Err r), buffer) ≡ write_of answered buffer
     → write_of image buffer ≡ (row_of r, buffer)
 unfolding written_row
 so r buffer e w = ap (λ (image : Image). write_of image buffer) e ∙ sym w

@@ -3,7 +3,7 @@
 use mathlib.Core.List.{List}
 use Prim.Native.Nat.{ℕ}
 use Rattle.base.proofs.Unique.{OneAnswer}
-use Rattle.writing.specs.declared.Written.{Written}
+use Rattle.writing.specs.Writing.{Written}
 use Rattle.writing.proofs.Rows.{one_write}
 use Rattle.bursts.proofs.write_rc_channels_burst.Reads as write-rc-channels-burst
 use Rattle.bursts.proofs.write_rc_channels_burst_values.Reads as write-rc-channels-burst-values

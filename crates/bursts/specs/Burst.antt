@@ -1,6 +1,6 @@
 -- A burst (RULES 17): the frames of up to eight sets of sixteen channels, one after another, all or nothing.
 -- Assumes nothing.
-use Rattle.std.specs.Prelude.{ℕ, zero, suc, ◌*◌, Bool, List, [], ◌∷◌, map, ltb, length, get_or, take, drop}
+use Rattle.std.specs.Prelude.{ℕ, zero, suc, ◌*◌, Bool, List, [], ◌∷◌, map, ltb, Option, Some, None, length, get_or, take, drop}
 use Rattle.base.specs.Choice.{when◌then◌else◌}
 use Rattle.base.specs.First.{first_where}
 use Rattle.packets.specs.Listed.{listed}
@@ -29,6 +29,11 @@ bad set = ltb (first_above set) channels_count
 
 abbrev pub first_bad : List (List ℕ) → ℕ
 first_bad sets = first_where bad sets
+
+-- .. with the place of its first such channel, or none
+abbrev pub place_bad : List (List ℕ) → Option (ℕ × ℕ)
+place_bad sets =
+    when ltb (first_bad sets) (length sets) then Some (first_bad sets, first_above (get_or sets (first_bad sets) [])) else None
 
 -- the first channel that is too large is refused, with its set and its place there; else the frames are joined
 unfoldable pub sets_image : ℕ → List (List ℕ) → Image

@@ -6,14 +6,12 @@ ghost use Rattle.base.specs.Parts.{part, pasted};
 ghost use Rattle.reading.specs.Frame.{joined};
 ghost use Rattle.writing.specs.Writing.{written_row, write_of};
 ghost use Rattle.channels.specs.Channels.{channels_count};
-ghost use Rattle.bursts.specs.Burst.{most_sets, frame_size, first_bad, set_frames, burst_image, sixteens, values_image};
+ghost use Rattle.bursts.specs.Burst.{most_sets, frame_size, first_bad, place_bad, set_frames, burst_image, sixteens, values_image};
 
-use base::copy_u16;
 use channels::RcChannelsPacked;
 use frames::{CHANNELS_FRAME, put_rc_channels};
 use packets::is_address;
 use refusals::Refusal;
-use writing::Written;
 
 // The most sets of one burst.
 pub const SETS: usize = 8;
@@ -29,23 +27,22 @@ fn set_at(channels: &[u16], at: usize) -> RcChannelsPacked
     ensures { result ≡ record { 0 = part channels.now at channels_count } }
 {
     let mut set = [0u16; CHANNELS];
-    copy_u16(&mut set, &channels[at..at + CHANNELS], CHANNELS);
+    set.copy_from_slice(&channels[at..at + CHANNELS]);
     RcChannelsPacked(set)
 }
 
-// The place of the first counted set with a channel above 2047, and the count where there is none.
-fn first_bad(channels: &[u16], count: usize) -> usize
+// The place of the first counted set with a channel above 2047, and the place of that channel there. The count stands beside the numbers, as a host
+// gives it.
+fn first_bad(channels: &[u16], count: usize) -> Option<(usize, usize)>
     requires { (count ≤ most_sets) × (count * channels_count ≤ length channels.now) }
-    ensures { result ≡ first_bad (sixteens count channels.now) }
+    ensures { result ≡ place_bad (sixteens count channels.now) }
 {
-    let mut k = 0;
-    while k < count {
-        if set_at(channels, k * CHANNELS).first_above() < CHANNELS {
-            return k;
+    for k in 0..count {
+        if let Some(channel) = set_at(channels, k * CHANNELS).first_above() {
+            return Some((k, channel));
         }
-        k += 1;
     }
-    k
+    None
 }
 
 // The frames of the counted sets, each in its place.
@@ -54,11 +51,9 @@ fn put_sets(buffer: &mut [u8], dest: u8, channels: &[u16], count: usize)
     requires frame_size_in_bounds { (count * frame_size ≤ length buffer.old) × (count ≤ first_bad (sixteens count channels.now)) }
     ensures { buffer.new ≡ pasted buffer.old 0 (joined (set_frames dest (sixteens count channels.now))) }
 {
-    let mut k = 0;
-    while k < count {
+    for k in 0..count {
         let at = k * CHANNELS_FRAME;
         put_rc_channels(&mut buffer[at..], dest, set_at(channels, k * CHANNELS));
-        k += 1;
     }
 }
 
@@ -69,51 +64,41 @@ pub fn write_rc_channels_burst_values(
     dest: u8,
     channels: &[u16],
     count: usize,
-) -> Written
+) -> Result<usize, Refusal>
     ensures { (written_row result, buffer.new) ≡ write_of (values_image dest channels.now count) buffer.old }
 {
     if !is_address(dest) {
-        return Written::Refused(Refusal::BadAddress);
+        return Err(Refusal::BadAddress);
     }
     // Before any product: a count may be any number.
     if count > SETS {
-        return Written::Refused(Refusal::InvalidPayloadLength);
+        return Err(Refusal::InvalidPayloadLength);
     }
     if channels.len() < count * CHANNELS {
-        return Written::Refused(Refusal::InvalidPayloadLength);
+        return Err(Refusal::InvalidPayloadLength);
     }
-    let bad = first_bad(channels, count);
-    if bad < count {
-        let above = set_at(channels, bad * CHANNELS).first_above();
+    if let Some((bad, above)) = first_bad(channels, count) {
         let set = bad as u16;
         let channel = above as u16;
-        return Written::Refused(Refusal::SetChannelRange { set, channel });
+        return Err(Refusal::SetChannelRange { set, channel });
     }
     let size = count * CHANNELS_FRAME;
     if buffer.len() < size {
-        return Written::Refused(Refusal::BufferOverflow);
+        return Err(Refusal::BufferOverflow);
     }
     put_sets(buffer, dest, channels, count);
-    Written::Wrote(size)
-}
-
-// A set in its place.
-fn put_set(numbers: &mut [u16], at: usize, set: RcChannelsPacked)
-    requires { at + channels_count ≤ length numbers.old }
-    ensures { (numbers.new ≡ pasted numbers.old at set.0) × (length set.0 ≡ channels_count) }
-{
-    let channels = set.0;
-    copy_u16(&mut numbers[at..at + CHANNELS], &channels, CHANNELS);
+    Ok(size)
 }
 
 // The sets one behind another.
 fn flat(sets: [[u16; CHANNELS]; SETS]) -> [u16; ALL]
     ensures { sixteens most_sets result ≡ sets }
 {
+    // Not `as_flattened`: the length of what it gives was not to be proved.
     let mut numbers = [0u16; ALL];
-    for k in 0..SETS {
-        let set = sets[k];
-        put_set(&mut numbers, k * CHANNELS, RcChannelsPacked(set));
+    for (k, set) in sets.iter().enumerate() {
+        let at = k * CHANNELS;
+        numbers[at..at + CHANNELS].copy_from_slice(set);
     }
     numbers
 }
@@ -124,7 +109,7 @@ pub fn write_rc_channels_burst(
     dest: u8,
     sets: [[u16; CHANNELS]; SETS],
     count: usize,
-) -> Written
+) -> Result<usize, Refusal>
     ensures { (written_row result, buffer.new) ≡ write_of (burst_image dest sets count) buffer.old }
 {
     let numbers = flat(sets);

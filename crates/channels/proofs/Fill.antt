@@ -1,16 +1,15 @@
 -- A loop that copies a list s from `at` on over the same places of a list d, one element a turn.
 -- Assumes nothing.
-use mathlib.Core.Path.{◌≡◌, sym, ap, ◌∙◌}
-use mathlib.Core.List.{List, [], ◌∷◌, ◌++◌}
-use Prim.Native.Nat.{ℕ, ◌+◌, ◌*◌, ◌/◌, ◌^◌, ◌≤◌, ◌<◌}
+use mathlib.Core.Path.{◌≡◌, sym, ap, ap₂, ◌∙◌}
+use mathlib.Core.List.{List, [], ◌∷◌, ◌++◌, append_assoc}
+use Prim.Native.Nat.{ℕ, ◌+◌, ◌≤◌, ◌<◌}
 use native.Mathlib.Nat.{zero-add}
 use native.Mathlib.Omega.{arith}
 use lib.ListN.{length, get_or, set, take, drop}
-use lib.Seq.{take-add, drop-drop}
+use lib.Seq.{take-add, take_all, drop-drop}
+use borrow.Rule.Slice.PartMut.{put_mid}
 use Rattle.base.specs.Parts.{part, pasted}
-use Rattle.base.proofs.Parts.{length_part, part_snoc, pasted_nil, set_pasted, pasted_append, length_pasted}
-use Rattle.channels.specs.Digits.{digits}
-use Rattle.channels.proofs.Digits.{length_digits, digits_add}
+use Rattle.base.proofs.Parts.{length_part, part_snoc, pasted_nil, set_pasted, pasted_append, pasted_front, length_pasted}
 
 -- d with i elements of s
 abbrev pub filling : List ℕ → List ℕ → ℕ → ℕ → List ℕ
@@ -43,8 +42,24 @@ two_parts s d at a b hs hd =
     ∙ ap (λ (l : List ℕ). pasted d at (part s at a ++ take b l)) (sym (drop-drop a at s))
     ∙ ap (pasted d at) (sym (take-add a b (drop at s)))
 
--- some bytes of a number, and the next behind them
-pub more_digits : (d : List ℕ) (at n m w : ℕ) → at + n ≤ length d
-    → pasted (pasted d at (digits 8 n w)) (at + n) (digits 8 m (w / 2 ^ (8 * n))) ≡ pasted d at (digits 8 (n + m) w)
-more_digits d at n m w h =
-    pasted_append d at n (digits 8 n w) (digits 8 m (w / 2 ^ (8 * n))) (length_digits 8 n w) h ∙ ap (pasted d at) (sym (digits_add 8 n m w))
+-- the elements from a on, as many as there are new ones, are replaced by these
+mid_pasted : (a k : ℕ) (xs ys : List ℕ) → length ys ≡ k → put_mid a k xs ys ≡ pasted xs a ys
+unfolding pasted
+mid_pasted a k xs ys e =
+    rw (← e)
+    (ap (λ (l : List ℕ). take a xs ++ (ys ++ l)) (drop-drop (length ys) a xs) ∙ sym (append_assoc (take a xs) ys (drop (a + length ys) xs)))
+
+-- six bytes, eight and eight make up the 22
+pub six_eight_eight : (s d : List ℕ) → length s ≡ 22 → 22 ≤ length d → {x y z : List ℕ} → x ≡ part s 0 6 → y ≡ part s 6 8 → z ≡ part s 14 8
+    → put_mid 14 8 (put_mid 6 8 (x ++ drop 6 d) y) z ≡ pasted d 0 s
+six_eight_eight s d long room {x} {y} {z} e f g =
+    let first : length x ≡ 6 = rw e (length_part s 0 6 (omega arith)) in
+    let second : length y ≡ 8 = rw f (length_part s 6 8 (omega arith)) in
+    let third : length z ≡ 8 = rw g (length_part s 14 8 (omega arith)) in
+    let start : x ++ drop 6 d ≡ pasted d 0 (part s 0 6) =
+    ap (λ (n : ℕ). x ++ drop n d) (sym first) ∙ sym (pasted_front d x) ∙ ap (pasted d 0) e in
+    mid_pasted 14 8 _ z third
+    ∙ ap₂ (λ (l w : List ℕ). pasted l 14 w) (mid_pasted 6 8 _ y second ∙ ap₂ (λ (l w : List ℕ). pasted l 6 w) start f) g
+    ∙ ap (λ (l : List ℕ). pasted l 14 (part s 14 8)) (two_parts s d 0 6 8 (omega arith) (omega arith))
+    ∙ two_parts s d 0 14 8 (omega arith) (omega arith)
+    ∙ ap (pasted d 0) (take_all 22 s (omega arith))

@@ -14,8 +14,7 @@ use Rattle.base.proofs.Tests.{below}
 use Rattle.base.specs.Bytes.{Bytes}
 use Rattle.refusals.specs.declared.Refusal.TheVariants.{ChannelRange}
 use Rattle.writing.specs.Writing.{bytes, refused}
-use Rattle.layout.specs.Decoded.{read_row}
-use Rattle.layout.specs.declared.ReadAnswer.TheVariants.{Record}
+use Rattle.layout.specs.Decoded.{record_row}
 use Rattle.channels.specs.Digits.{number, digits, Below}
 use Rattle.channels.specs.Channels.{channels_count, channels_size, channels_of, channel_bytes, low_bits, channels_read, first_above, channels_image}
 use Rattle.channels.specs.declared.RcChannelsPacked.{RcChannelsPacked}
@@ -66,7 +65,7 @@ channels_image_lem c n h = image_bytes c (omega (arith, not_above c.0 h))
 -- READING AFTER WRITING, whatever stands behind
 pub channels_read_written :
     (c : RcChannelsPacked) (payload after : List ℕ) → length c.0 ≡ channels_count → channels_image c ≡ bytes payload
-    → channels_read (payload ++ after) ≡ (read_row Record, c)
+    → channels_read (payload ++ after) ≡ (record_row, c)
 unfolding channels_read
 channels_read_written c payload after n e =
     let long : length payload ≡ channels_size = channels_length c payload e in
@@ -74,7 +73,7 @@ channels_read_written c payload after n e =
     let back : channels_of payload ≡ c.0 =
     rw (← (known c payload e).1) (channels_back c.0 n (none_above c.0 (omega (arith, n)))) in
     rw (le-ltb (length (payload ++ after)) channels_size (omega (arith, length-append payload after)), take_at payload after channels_size long)
-    (ap (λ (l : List ℕ). (read_row Record, record { 0 = l })) back)
+    (ap (λ (l : List ℕ). (record_row, record { 0 = l })) back)
 
 -- WRITING AFTER READING: every 22-byte string is written again
 pub channels_written_read :

@@ -1,12 +1,12 @@
 -- RC channels (RULES 10): sixteen channels of 11 bits in 22 bytes. Channel i is bits 11 i to 11 i + 10 of the payload's little-endian number.
 -- Assumes nothing.
-use Rattle.std.specs.Prelude.{List, map, ℕ, ◌%◌, ◌^◌, ltb, length, take, replicate}
+use Rattle.std.specs.Prelude.{List, map, ℕ, ◌%◌, ◌^◌, ltb, Option, Some, None, length, take, replicate}
 use Rattle.base.specs.Choice.{when◌then◌else◌}
 use Rattle.base.specs.First.{first_where}
+use Rattle.refusals.specs.Row.{row_of}
 use Rattle.refusals.specs.declared.Refusal.TheVariants.{InvalidPayloadLength, ChannelRange}
 use Rattle.writing.specs.Writing.{Image, bytes, refused}
-use Rattle.layout.specs.Decoded.{read_row}
-use Rattle.layout.specs.declared.ReadAnswer.TheVariants.{Record, Refused}
+use Rattle.layout.specs.Decoded.{record_row}
 use Rattle.channels.specs.Digits.{number, digits}
 use Rattle.channels.specs.declared.RcChannelsPacked.{RcChannelsPacked}
 
@@ -34,16 +34,24 @@ channel_bytes channels = digits 8 channels_size (number 11 channels)
 abbrev pub low_bits : List ℕ → List ℕ
 low_bits channels = map (λ c. c % 2 ^ 11) channels
 
+-- the channels that stand for none
+abbrev pub no_channels : RcChannelsPacked
+no_channels = record { 0 = replicate channels_count 0 }
+
 -- reading: what is said, as a row, and the channels beside it. A shorter payload is refused, with every channel 0; bytes behind are ignored
 unfoldable pub channels_read : List ℕ → List ℕ × RcChannelsPacked
 channels_read payload =
     when ltb (length payload) channels_size
-    then (read_row (Refused InvalidPayloadLength), record { 0 = replicate channels_count 0 })
-    else (read_row Record, record { 0 = channels_of (take channels_size payload) })
+    then (row_of InvalidPayloadLength, no_channels)
+    else (record_row, record { 0 = channels_of (take channels_size payload) })
 
 -- the place of the first channel that is too large, and the count of channels where there is none
 abbrev pub first_above : List ℕ → ℕ
 first_above channels = first_where (ltb greatest) channels
+
+-- .. or none
+abbrev pub place_above : List ℕ → Option ℕ
+place_above channels = when ltb (first_above channels) (length channels) then Some (first_above channels) else None
 
 -- what there is to write: the first channel that is too large is refused, with its place; else the bytes
 unfoldable pub channels_image : RcChannelsPacked → Image

@@ -167,7 +167,7 @@ as_written {text = text} p = (p.next ∙ zero-add (length text), p.written)
 -- what is shown of a comparison, field by field
 shows : (out₀ : List ℕ) {wanted c : Comparing} {out text : List ℕ} {l r n d at : ℕ} {w : Wants} → wanted ≡ c → l ≡ c.left → r ≡ c.right → n ≡ c.agree → d ≡ c.differ
     → w ≡ c.wants → c.text ≡ text → at ≡ length text → out ≡ pasted out₀ 0 text
-    → ◌≡◌ {A = Compared × List ℕ} (record { left = l; right = r; agree = n; differ = d; written = at; wants = w }, out) (shown wanted, pasted out₀ 0 wanted.text)
+    → ◌≡◌ {A = Compared × List ℕ} (record { left = l; right = r; counts = record { agree = n; differ = d }; written = at; wants = w }, out) (shown wanted, pasted out₀ 0 wanted.text)
 shows out₀ e p q x y z k u v = cc
 
 -- the same turns, with every number another name
@@ -186,7 +186,7 @@ module _ {s : List ℕ} {lends : Bool} {t : List ℕ} {rends : Bool} {wanted : C
 
   -- no room is left
   pub full : length out₀ - at < longest_turn
-      → ◌≡◌ {A = Compared × List ℕ} (record { left = l; right = r; agree = n; differ = d; written = at; wants = Room }, out) (shown wanted, pasted out₀ 0 wanted.text)
+      → ◌≡◌ {A = Compared × List ℕ} (record { left = l; right = r; counts = record { agree = n; differ = d }; written = at; wants = Room }, out) (shown wanted, pasted out₀ 0 wanted.text)
   full few =
       some_left fills.most _ fills.enough
       (λ less e.
@@ -215,7 +215,7 @@ module _ {s : List ℕ} {lends : Bool} {t : List ℕ} {rends : Bool} {wanted : C
     same_size = length_puts (omega (arith, turns.puts.next, turns.short, fills.out_size, fills.room)) turns.puts ∙ fills.out_size
 
     pub within_turn : Within (length s) (length t) (length out₀)
-        (record { left = l + one.left; right = r + one.right; agree = one.agree; differ = one.differ; written = one.at; wants = one.wants })
+        (record { left = l + one.left; right = r + one.right; counts = record { agree = one.counts.agree; differ = one.counts.differ }; written = one.at; wants = one.wants })
     within_turn = record { left_in = takes_left; right_in = takes_right; written_in = in_room }
 
     goes : {b : Bool} → goes_on one.wants ≡ b → goes_on c.wants ≡ b
@@ -236,7 +236,7 @@ module _ {s : List ℕ} {lends : Bool} {t : List ℕ} {rends : Bool} {wanted : C
           fills.right_in,
         )
 
-    pub again : goes_on one.wants ≡ true → Filling s lends t rends wanted out₀ (l + one.left) (r + one.right) one.agree one.differ one.at outAfter
+    pub again : goes_on one.wants ≡ true → Filling s lends t rends wanted out₀ (l + one.left) (r + one.right) one.counts.agree one.counts.differ one.at outAfter
     again onward =
         some_left fills.most _ fills.enough
         (λ fewer e.
@@ -265,7 +265,7 @@ module _ {s : List ℕ} {lends : Bool} {t : List ℕ} {rends : Bool} {wanted : C
     -- the loop ends with this turn
     pub last : goes_on one.wants ≡ false
         → ◌≡◌ {A = Compared × List ℕ}
-        (record { left = l + one.left; right = r + one.right; agree = one.agree; differ = one.differ; written = one.at; wants = one.wants }, outAfter)
+        (record { left = l + one.left; right = r + one.right; counts = record { agree = one.counts.agree; differ = one.counts.differ }; written = one.at; wants = one.wants }, outAfter)
         (shown wanted, pasted out₀ 0 wanted.text)
     last done =
         some_left fills.most _ fills.enough

@@ -112,7 +112,7 @@ kept (call {l} {r} {n} {d} {text} {left} {llater} {right} {rlater} lends rends o
       (left_on c k shows.result left llater x) (right_on c k shows.result right rlater y)
       ∙ ap (λ (z : Compared).
       told.begin (text ++ take c.written outAfter)
-      (tell z.agree z.differ (reading limit (drop c.left left ++ llater ++ x)) (reading limit (drop c.right right ++ rlater ++ y))))
+      (tell z.counts.agree z.counts.differ (reading limit (drop c.left left ++ llater ++ x)) (reading limit (drop c.right right ++ rlater ++ y))))
       (sym shows.result));
 }
 
@@ -140,7 +140,7 @@ pub record Whole (l r : Upload) (text : List ℕ) (agree differ : ℕ) : Type 0 
 pub whole : {l r : Upload} {n d : ℕ} {text : List ℕ} (left llater right rlater : List ℕ) (lends rends : Bool) (out : List ℕ) {outAfter : List ℕ} {c : Compared}
     → Run l r n d text → Lent l left llater lends → Lent r right rlater rends
     → (c, outAfter) ≡ compared_of left lends right rends n d out → is_whole c.wants ≡ true
-    → Whole l r (text ++ take c.written outAfter) c.agree c.differ
+    → Whole l r (text ++ take c.written outAfter) c.counts.agree c.counts.differ
 whole {l} {r} {n} {d} {text} left llater right rlater lends rends out {outAfter} {c} run lent lent' is done =
     any_call left right lends rends n d out is
     (λ k shows carries.
@@ -155,6 +155,6 @@ whole {l} {r} {n} {d} {text} left llater right rlater lends rends out {outAfter}
       left_ends = (lent.all ends.0).0;
       right_ends = (lent'.all ends.1).0;
       text_is = ap (λ (t : List ℕ). text ++ t) shows.written ∙ sym (ap (λ (t : Told). t.text) told);
-      agree_is = ap (λ (z : Compared). z.agree) shows.result ∙ sym (ap (λ (t : Told). t.agree) told) ∙ zero-add _;
-      differ_is = ap (λ (z : Compared). z.differ) shows.result ∙ sym (ap (λ (t : Told). t.differ) told) ∙ zero-add _;
+      agree_is = ap (λ (z : Compared). z.counts.agree) shows.result ∙ sym (ap (λ (t : Told). t.agree) told) ∙ zero-add _;
+      differ_is = ap (λ (z : Compared). z.counts.differ) shows.result ∙ sym (ap (λ (t : Told). t.differ) told) ∙ zero-add _;
     })

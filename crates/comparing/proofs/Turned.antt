@@ -58,7 +58,7 @@ pub turns_as : {c c' : Comparing} {out outAfter : List ℕ} {at : ℕ} {r : Turn
 turns_as {out = out} {outAfter} {at} {r} e t = subst (λ (x : Comparing). Turns x out at outAfter r) (sym e) t
 
 pub stayed : (n d : ℕ) (w : Wants) (out : List ℕ) (at : ℕ) {r : Turned}
-    → r ≡ record { left = 0; right = 0; agree = n; differ = d; at = at; wants = w } → Turns (stays n d w) out at out r
+    → r ≡ record { left = 0; right = 0; counts = record { agree = n; differ = d }; at = at; wants = w } → Turns (stays n d w) out at out r
 stayed n d w out at e =
     subst (λ (x : Turned). Turns (stays n d w) out at out x) (sym e)
     (record { left_is = refl; right_is = refl; agree_is = refl; differ_is = refl; wants_is = refl; puts = puts_none; short = omega arith })
@@ -74,7 +74,7 @@ module _ {left right : List ℕ} {a b : Next} (p : Finds left a) (q : Finds righ
   agree = agrees (pair (side_of f') (side_of g'))
 
   pub settled_same : {out : List ℕ} {at : ℕ} → agree ≡ true
-      → Turns (settles n d f' g') out at out (record { left = a.size; right = b.size; agree = n + 1; differ = d; at = at; wants = Room })
+      → Turns (settles n d f' g') out at out (record { left = a.size; right = b.size; counts = record { agree = n + 1; differ = d }; at = at; wants = Room })
   unfolding place_line
   settled_same e = record {
     left_is = p.size_is;
@@ -88,7 +88,7 @@ module _ {left right : List ℕ} {a b : Next} (p : Finds left a) (q : Finds righ
 
   pub settled_other : {out outAfter : List ℕ} {at r : ℕ} → agree ≡ false
       → Puts out at (beside (leading (n + d + 1)) (side_text (side_of f')) (side_text (side_of g'))) outAfter r → r ≤ at + longest_pair
-      → Turns (settles n d f' g') out at outAfter (record { left = a.size; right = b.size; agree = n; differ = d + 1; at = r; wants = Room })
+      → Turns (settles n d f' g') out at outAfter (record { left = a.size; right = b.size; counts = record { agree = n; differ = d + 1 }; at = r; wants = Room })
   unfolding place_line
   settled_other e put short = record {
     left_is = p.size_is;
@@ -103,7 +103,7 @@ module _ {left right : List ℕ} {a b : Next} (p : Finds left a) (q : Finds righ
 
 -- a frame that the right upload goes on with
 pub settled_again : {left right : List ℕ} {a : Next} (p : Finds left a) (again : Again left right a) (n d : ℕ) (lends rends : Bool) {out : List ℕ} {at : ℕ}
-    → Turns (turn_of n d lends rends left right) out at out (record { left = a.size; right = a.size; agree = n + 1; differ = d; at = at; wants = Room })
+    → Turns (turn_of n d lends rends left right) out at out (record { left = a.size; right = a.size; counts = record { agree = n + 1; differ = d }; at = at; wants = Room })
 unfolding place_line
 settled_again {left} {right} {a} p again n d lends rends =
     let f = first limit left in
@@ -126,7 +126,7 @@ settled_again {left} {right} {a} p again n d lends rends =
 -- the tails
 module _ (s t : List ℕ) (n d : ℕ) {out : List ℕ} {at : ℕ} where
   pub closed_same : {outAfter : List ℕ} {r : ℕ} → same_bytes s t ≡ true → Puts out at (last_line (n + 1) d) outAfter r → r ≤ at + longest_last
-      → Turns (closes n d s t) out at outAfter (record { left = 0; right = 0; agree = n + 1; differ = d; at = r; wants = Nothing })
+      → Turns (closes n d s t) out at outAfter (record { left = 0; right = 0; counts = record { agree = n + 1; differ = d }; at = r; wants = Nothing })
   unfolding tail_line
   closed_same e put short = record {
     left_is = refl;
@@ -142,7 +142,7 @@ module _ (s t : List ℕ) (n d : ℕ) {out : List ℕ} {at : ℕ} where
       → length s ≤ 63 → length t ≤ 63 → at + longest_turn ≤ length out
       → Puts out at (beside tail_word (bare (held_line l)) (bare (held_line m))) between k → k ≤ at + longest_tails
       → Puts between k (last_line n (d + 1)) outAfter r → r ≤ k + longest_last
-      → Turns (closes n d s t) out at outAfter (record { left = 0; right = 0; agree = n; differ = d + 1; at = r; wants = Nothing })
+      → Turns (closes n d s t) out at outAfter (record { left = 0; right = 0; counts = record { agree = n; differ = d + 1 }; at = r; wants = Nothing })
   unfolding tail_line
   closed_other {l = l} {m = m} e left right few few' room tails short last short' = record {
     left_is = refl;

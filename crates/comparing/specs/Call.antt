@@ -142,7 +142,7 @@ compare_of room n d lends rends s t = turns_within (suc (length s + length t)) r
 -- ---- What the call shows
 
 abbrev pub shown : Comparing → Compared
-shown c = record { left = c.left; right = c.right; agree = c.agree; differ = c.differ; written = length c.text; wants = c.wants }
+shown c = record { left = c.left; right = c.right; counts = record { agree = c.agree; differ = c.differ }; written = length c.text; wants = c.wants }
 
 -- no more is done with than there is, and no more is written than there is room for. It follows from what is shown, and is promised beside it so that a
 -- caller need not prove how long a text is

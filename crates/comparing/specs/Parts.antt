@@ -9,8 +9,8 @@ use Rattle.comparing.specs.declared.turn.Turned.{Turned}
 pub record Turns (c : Comparing) (out : List ℕ) (at : ℕ) (outAfter : List ℕ) (r : Turned) : Type 0 where
   pub left_is : r.left ≡ c.left
   pub right_is : r.right ≡ c.right
-  pub agree_is : r.agree ≡ c.agree
-  pub differ_is : r.differ ≡ c.differ
+  pub agree_is : r.counts.agree ≡ c.agree
+  pub differ_is : r.counts.differ ≡ c.differ
   pub wants_is : r.wants ≡ c.wants
   pub puts : Puts out at c.text outAfter r.at
   pub short : r.at ≤ at + longest_turn

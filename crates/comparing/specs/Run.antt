@@ -42,4 +42,4 @@ pub data Run : Upload → Upload → ℕ → ℕ → List ℕ → Type 0 where
   call : {l r : Upload} {n d : ℕ} {text : List ℕ} {left llater right rlater : List ℕ} (lends rends : Bool) (out : List ℕ) {outAfter : List ℕ} {c : Compared}
       → Run l r n d text → Lent l left llater lends → Lent r right rlater rends
       → (c, outAfter) ≡ compared_of left lends right rends n d out → is_whole c.wants ≡ false
-      → Run (went l (drop c.left left ++ llater)) (went r (drop c.right right ++ rlater)) c.agree c.differ (text ++ take c.written outAfter)
+      → Run (went l (drop c.left left ++ llater)) (went r (drop c.right right ++ rlater)) c.counts.agree c.counts.differ (text ++ take c.written outAfter)

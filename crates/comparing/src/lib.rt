@@ -31,21 +31,35 @@ pub enum Wants {
     Refused(Refusal),
 }
 
+// What is left of an upload: the bytes that are there, and whether nothing comes behind them.
+#[derive(Clone, Copy)]
+pub struct Unread<'a> {
+    pub bytes: &'a [u8],
+    pub ends: bool,
+}
+
+// How many pairs agreed so far, and how many differed.
+#[derive(Clone, Copy)]
+pub struct Counts {
+    pub agree: u64,
+    pub differ: u64,
+}
+
 // How many bytes of each upload are done with, how many pairs agreed and differed so far, how many bytes were written, and what is asked for.
 #[derive(Clone, Copy)]
 pub struct Compared {
     pub left: usize,
     pub right: usize,
-    pub agree: u64,
-    pub differ: u64,
+    pub counts: Counts,
     pub written: usize,
     pub wants: Wants,
 }
 
 // Whether all pairs can be counted: those so far, as many as there are bytes, and the tails'. No sum is made that might have no room.
-fn is_counted(agree: u64, differ: u64, left: usize, right: usize) -> bool
-    ensures { result ≡ is_counted agree differ left right }
+fn is_counted(counts: Counts, left: usize, right: usize) -> bool
+    ensures { result ≡ is_counted counts.agree counts.differ left right }
 {
+    let Counts { agree, differ } = counts;
     if u64::MAX - agree <= differ {
         return false;
     }
@@ -53,48 +67,40 @@ fn is_counted(agree: u64, differ: u64, left: usize, right: usize) -> bool
 }
 
 // Turns, while there is room for the longest lines.
-fn fill(
-    left: &[u8],
-    left_ends: bool,
-    right: &[u8],
-    right_ends: bool,
-    agree: u64,
-    differ: u64,
-    out: &mut [u8],
-) -> Compared
-    requires { is_counted agree differ (length left.now) (length right.now) ≡ true }
-    ensures { ((result, out.new) ≡ filled_of left.now left_ends right.now right_ends agree differ out.old) × Within (length left.now) (length right.now) (length out.old) result }
+fn fill(left: Unread<'_>, right: Unread<'_>, counts: Counts, out: &mut [u8]) -> Compared
+    requires { is_counted counts.agree counts.differ (length left.bytes.now) (length right.bytes.now) ≡ true }
+    ensures { ((result, out.new) ≡ filled_of left.entry.bytes.now left.entry.ends right.entry.bytes.now right.entry.ends counts.agree counts.differ out.old) × Within (length left.entry.bytes.now) (length right.entry.bytes.now) (length out.old) result }
 {
     let mut places = [0u8; LIMIT];
     let mut l = 0;
     let mut r = 0;
-    let mut n = agree;
-    let mut d = differ;
+    let mut so_far = counts;
     let mut at = 0;
     while LONGEST_TURN <= out.len() - at {
         let one = turn(
             &mut places,
-            &left[l..],
-            left_ends,
-            &right[r..],
-            right_ends,
-            n,
-            d,
+            Unread {
+                bytes: &left.bytes[l..],
+                ends: left.ends,
+            },
+            Unread {
+                bytes: &right.bytes[r..],
+                ends: right.ends,
+            },
+            so_far,
             out,
             at,
         );
         l += one.left;
         r += one.right;
-        n = one.agree;
-        d = one.differ;
+        so_far = one.counts;
         at = one.at;
         let wants = one.wants;
         if !goes_on(wants) {
             return Compared {
                 left: l,
                 right: r,
-                agree: n,
-                differ: d,
+                counts: so_far,
                 written: at,
                 wants,
             };
@@ -103,34 +109,23 @@ fn fill(
     Compared {
         left: l,
         right: r,
-        agree: n,
-        differ: d,
+        counts: so_far,
         written: at,
         wants: Wants::Room,
     }
 }
 
-// The text of where what is left of two uploads differs, behind so many pairs that agreed and that differed. `left_ends` and `right_ends` say that
-// nothing comes behind these bytes.
-pub fn compare_in(
-    left: &[u8],
-    left_ends: bool,
-    right: &[u8],
-    right_ends: bool,
-    agree: u64,
-    differ: u64,
-    out: &mut [u8],
-) -> Compared
-    ensures { ((result, out.new) ≡ compared_of left.now left_ends right.now right_ends agree differ out.old) × Within (length left.now) (length right.now) (length out.old) result }
+// The text of where what is left of two uploads differs, behind so many pairs that agreed and that differed.
+pub fn compare_in(left: Unread<'_>, right: Unread<'_>, counts: Counts, out: &mut [u8]) -> Compared
+    ensures { ((result, out.new) ≡ compared_of left.entry.bytes.now left.entry.ends right.entry.bytes.now right.entry.ends counts.agree counts.differ out.old) × Within (length left.entry.bytes.now) (length right.entry.bytes.now) (length out.old) result }
 {
-    if is_counted(agree, differ, left.len(), right.len()) {
-        return fill(left, left_ends, right, right_ends, agree, differ, out);
+    if is_counted(counts, left.bytes.len(), right.bytes.len()) {
+        return fill(left, right, counts, out);
     }
     Compared {
         left: 0,
         right: 0,
-        agree,
-        differ,
+        counts,
         written: 0,
         wants: Wants::Refused(Refusal::PositionRange),
     }

@@ -38,30 +38,20 @@ pub(crate) fn next_of(places: &mut [u8; LIMIT], input: &[u8]) -> Next
 pub(crate) fn is_hungry(reply: Reply, ends: bool) -> bool
     ensures { result ≡ (asks_for_more reply && not ends) }
 {
-    if asks_for_more(reply) {
-        return !ends;
-    }
-    false
+    asks_for_more(reply) && !ends
 }
 
 // No answer is there on either side.
 pub(crate) fn are_done(left: Reply, right: Reply) -> bool
     ensures { result ≡ (asks_for_more left && asks_for_more right) }
 {
-    if asks_for_more(left) {
-        return asks_for_more(right);
-    }
-    false
+    asks_for_more(left) && asks_for_more(right)
 }
 
 fn is_frame(reply: Reply) -> bool
     ensures { result ≡ is_frame reply }
 {
-    match reply {
-        Reply::More => false,
-        Reply::Frame(_) => true,
-        Reply::Refused(_) => false,
-    }
+    matches!(reply, Reply::Frame(_))
 }
 
 // The answer is a frame, and the right upload goes on with its bytes: so their check byte is right there too.
@@ -102,13 +92,7 @@ fn head_of(reply: Reply) -> Row
 fn is_same_row(x: Row, y: Row) -> bool
     ensures { result ≡ same_row x y }
 {
-    if x.number != y.number {
-        return false;
-    }
-    if x.first != y.first {
-        return false;
-    }
-    x.second == y.second
+    x == y
 }
 
 // Whether two answers agree: number and values, of frames all bytes.

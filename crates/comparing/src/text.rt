@@ -8,6 +8,7 @@ ghost use Rattle.pairs.specs.Comparison.{tail_word, bare, side_text, beside, las
 ghost use Rattle.comparing.specs.Next.{Finds};
 ghost use Rattle.comparing.specs.Call.{longest_pair, longest_tails, longest_last};
 
+use crate::Counts;
 use crate::next::Next;
 use lines::line::{put_held, put_line, put_position, put_text};
 use stream::step::asks_for_more;
@@ -55,13 +56,13 @@ pub(crate) fn put_tails(left: u8, right: u8, out: &mut [u8], at: usize) -> usize
 }
 
 // The last line.
-pub(crate) fn put_last(agree: u64, differ: u64, out: &mut [u8], at: usize) -> usize
+pub(crate) fn put_last(counts: Counts, out: &mut [u8], at: usize) -> usize
     requires { at + longest_last ≤ length out.old }
-    ensures { (Puts out.old at (last_line agree differ) out.new result) × (result ≤ at + longest_last) }
+    ensures { (Puts out.old at (last_line counts.agree counts.differ) out.new result) × (result ≤ at + longest_last) }
 {
     let first = put_text(b"agree ", out, at);
-    let second = put_position(agree, out, first);
+    let second = put_position(counts.agree, out, first);
     let third = put_text(b"differ ", out, second);
-    let end = put_position(differ, out, third);
+    let end = put_position(counts.differ, out, third);
     put_text(b"\n", out, end - 1)
 }

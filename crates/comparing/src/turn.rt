@@ -6,9 +6,9 @@ ghost use Rattle.comparing.specs.Call.{settles, closes, turn_of, goes_on, longes
 ghost use Rattle.comparing.specs.Next.{Finds};
 ghost use Rattle.comparing.specs.Parts.{Turns};
 
-use crate::Wants;
 use crate::next::{Next, are_done, is_again, is_alike, is_hungry, next_of};
 use crate::text::{put_last, put_pair, put_tails};
+use crate::{Counts, Unread, Wants};
 use base::{is_same, narrow};
 use stream::LIMIT;
 
@@ -17,8 +17,7 @@ use stream::LIMIT;
 pub(crate) struct Turned {
     pub left: usize,
     pub right: usize,
-    pub agree: u64,
-    pub differ: u64,
+    pub counts: Counts,
     pub at: usize,
     pub wants: Wants,
 }
@@ -26,52 +25,51 @@ pub(crate) struct Turned {
 pub(crate) fn goes_on(wants: Wants) -> bool
     ensures { result ≡ goes_on wants }
 {
-    match wants {
-        Wants::Left => false,
-        Wants::Right => false,
-        Wants::Room => true,
-        Wants::Nothing => false,
-        Wants::Refused(_) => false,
-    }
+    matches!(wants, Wants::Room)
 }
 
 // Nothing is written or done with.
-fn stay(agree: u64, differ: u64, at: usize, wants: Wants) -> Turned
-    ensures { result ≡ record { left = 0; right = 0; agree = agree; differ = differ; at = at; wants = wants } }
+fn stay(counts: Counts, at: usize, wants: Wants) -> Turned
+    ensures { result ≡ record { left = 0; right = 0; counts = counts; at = at; wants = wants } }
 {
     Turned {
         left: 0,
         right: 0,
-        agree,
-        differ,
+        counts,
         at,
         wants,
     }
 }
 
 // The pair of the tails, and the last line.
-fn close(left: &[u8], right: &[u8], agree: u64, differ: u64, out: &mut [u8], at: usize) -> Turned
-    requires { ((length left.now ≤ 63) × (length right.now ≤ 63)) × ((at + longest_turn ≤ length out.old) × (agree + differ + 1 ≤ greatest)) }
-    ensures { Turns (closes agree differ left.now right.now) out.old at out.new result }
+fn close(left: &[u8], right: &[u8], counts: Counts, out: &mut [u8], at: usize) -> Turned
+    requires { ((length left.now ≤ 63) × (length right.now ≤ 63)) × ((at + longest_turn ≤ length out.old) × (counts.agree + counts.differ + 1 ≤ greatest)) }
+    ensures { Turns (closes counts.agree counts.differ left.now right.now) out.old at out.new result }
 {
     if is_same(left, right) {
-        let end = put_last(agree + 1, differ, out, at);
+        let counts = Counts {
+            agree: counts.agree + 1,
+            ..counts
+        };
+        let end = put_last(counts, out, at);
         return Turned {
             left: 0,
             right: 0,
-            agree: agree + 1,
-            differ,
+            counts,
             at: end,
             wants: Wants::Nothing,
         };
     }
+    let counts = Counts {
+        differ: counts.differ + 1,
+        ..counts
+    };
     let behind = put_tails(narrow(left.len()), narrow(right.len()), out, at);
-    let end = put_last(agree, differ + 1, out, behind);
+    let end = put_last(counts, out, behind);
     Turned {
         left: 0,
         right: 0,
-        agree,
-        differ: differ + 1,
+        counts,
         at: end,
         wants: Wants::Nothing,
     }
@@ -83,30 +81,33 @@ fn settle(
     left: &[u8],
     b: Next,
     right: &[u8],
-    agree: u64,
-    differ: u64,
+    counts: Counts,
     out: &mut [u8],
     at: usize,
 ) -> Turned
-    requires { (Finds left.now a × Finds right.now b) × ((at + longest_turn ≤ length out.old) × (agree + differ + 1 ≤ greatest)) }
-    ensures { Turns (settles agree differ (first limit left.now) (first limit right.now)) out.old at out.new result }
+    requires { (Finds left.now a × Finds right.now b) × ((at + longest_turn ≤ length out.old) × (counts.agree + counts.differ + 1 ≤ greatest)) }
+    ensures { Turns (settles counts.agree counts.differ (first limit left.now) (first limit right.now)) out.old at out.new result }
 {
     if is_alike(a, left, b, right) {
         return Turned {
             left: a.size,
             right: b.size,
-            agree: agree + 1,
-            differ,
+            counts: Counts {
+                agree: counts.agree + 1,
+                ..counts
+            },
             at,
             wants: Wants::Room,
         };
     }
-    let end = put_pair(agree + differ + 1, a, left, b, right, out, at);
+    let end = put_pair(counts.agree + counts.differ + 1, a, left, b, right, out, at);
     Turned {
         left: a.size,
         right: b.size,
-        agree,
-        differ: differ + 1,
+        counts: Counts {
+            differ: counts.differ + 1,
+            ..counts
+        },
         at: end,
         wants: Wants::Room,
     }
@@ -115,60 +116,54 @@ fn settle(
 // What comes of what stands first on both sides.
 fn turn_by(
     a: Next,
-    left: &[u8],
-    left_ends: bool,
+    left: Unread<'_>,
     b: Next,
-    right: &[u8],
-    right_ends: bool,
-    agree: u64,
-    differ: u64,
+    right: Unread<'_>,
+    counts: Counts,
     out: &mut [u8],
     at: usize,
 ) -> Turned
-    requires { (Finds left.now a × Finds right.now b) × ((at + longest_turn ≤ length out.old) × (agree + differ + 1 ≤ greatest)) }
-    ensures { Turns (turn_of agree differ left_ends right_ends left.now right.now) out.old at out.new result }
+    requires { (Finds left.bytes.now a × Finds right.bytes.now b) × ((at + longest_turn ≤ length out.old) × (counts.agree + counts.differ + 1 ≤ greatest)) }
+    ensures { Turns (turn_of counts.agree counts.differ left.entry.ends right.entry.ends left.entry.bytes.now right.entry.bytes.now) out.old at out.new result }
 {
     let l = a.reply;
     let r = b.reply;
-    if is_hungry(l, left_ends) {
-        return stay(agree, differ, at, Wants::Left);
+    if is_hungry(l, left.ends) {
+        return stay(counts, at, Wants::Left);
     }
-    if is_hungry(r, right_ends) {
-        return stay(agree, differ, at, Wants::Right);
+    if is_hungry(r, right.ends) {
+        return stay(counts, at, Wants::Right);
     }
     if are_done(l, r) {
-        return close(left, right, agree, differ, out, at);
+        return close(left.bytes, right.bytes, counts, out, at);
     }
-    settle(a, left, b, right, agree, differ, out, at)
+    settle(a, left.bytes, b, right.bytes, counts, out, at)
 }
 
 pub(crate) fn turn(
     places: &mut [u8; LIMIT],
-    left: &[u8],
-    left_ends: bool,
-    right: &[u8],
-    right_ends: bool,
-    agree: u64,
-    differ: u64,
+    left: Unread<'_>,
+    right: Unread<'_>,
+    counts: Counts,
     out: &mut [u8],
     at: usize,
 ) -> Turned
-    requires { (at + longest_turn ≤ length out.old) × (agree + differ + 1 ≤ greatest) }
-    ensures { Turns (turn_of agree differ left_ends right_ends left.now right.now) out.old at out.new result }
+    requires { (at + longest_turn ≤ length out.old) × (counts.agree + counts.differ + 1 ≤ greatest) }
+    ensures { Turns (turn_of counts.agree counts.differ left.entry.ends right.entry.ends left.entry.bytes.now right.entry.bytes.now) out.old at out.new result }
 {
-    let a = next_of(places, left);
-    if is_again(a, left, right) {
+    let a = next_of(places, left.bytes);
+    if is_again(a, left.bytes, right.bytes) {
         return Turned {
             left: a.size,
             right: a.size,
-            agree: agree + 1,
-            differ,
+            counts: Counts {
+                agree: counts.agree + 1,
+                ..counts
+            },
             at,
             wants: Wants::Room,
         };
     }
-    let b = next_of(places, right);
-    turn_by(
-        a, left, left_ends, b, right, right_ends, agree, differ, out, at,
-    )
+    let b = next_of(places, right.bytes);
+    turn_by(a, left, b, right, counts, out, at)
 }

@@ -7,22 +7,14 @@ ghost use Rattle.crc.specs.Word.{word_check};
 
 use crate::word::times_x64;
 
-fn wide(b: u8) -> u64
-    ensures { (result ≡ b) × (result < 256) }
-{
-    b as u64
-}
-
 // The first n bytes, one by one.
 fn first_bytes(s: &[u8], n: usize) -> u64
     requires { (n ≤ length s.now) × (n ≤ 8) }
     ensures { result ≡ be_of (take n s.now) }
 {
-    let mut w: u64 = 0;
-    let mut i: usize = 0;
-    while i < n {
-        w = w * 256 + wide(s[i]);
-        i += 1;
+    let mut w = 0;
+    for i in 0..n {
+        w = w * 256 + u64::from(s[i]);
     }
     w
 }
@@ -31,9 +23,9 @@ fn four(s: &[u8], i: usize) -> u64
     requires { i + 4 ≤ length s.now }
     ensures { (result ≡ be_of (part s.now i 4)) × (result < 2 ^ 32) }
 {
-    let two = wide(s[i]) * 256 + wide(s[i + 1]);
-    let three = two * 256 + wide(s[i + 2]);
-    three * 256 + wide(s[i + 3])
+    let two = u64::from(s[i]) * 256 + u64::from(s[i + 1]);
+    let three = two * 256 + u64::from(s[i + 2]);
+    three * 256 + u64::from(s[i + 3])
 }
 
 // The eight bytes from place i on, which become one read: a loop over them does so in some places only.
@@ -53,6 +45,7 @@ fn by_eights(s: &[u8], from: usize, first: u64) -> u64
     let n = s.len();
     let mut i = from;
     let mut w = first;
+    // In steps of eight, whose bytes `eight` reads at known places: that is what becomes one read (docs/SPEED.md).
     while i < n {
         w = times_x64(w) ^ eight(s, i);
         i += 8;

@@ -1,5 +1,5 @@
 // The two tables of sixteen entries. Each is a `match`, which lies in read-only memory, where an array would be stored to the stack each time that
-// it is bound.
+// it is bound. Two tables, and so two functions.
 ghost use Rattle.std.specs.Prelude.{◌≡◌, ◌*◌, ◌<◌};
 ghost use Rattle.crc.specs.Remainder.{shifts};
 

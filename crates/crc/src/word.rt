@@ -16,6 +16,8 @@ pub(crate) fn times_x64(w: u64) -> u64
     (a << 3) ^ b ^ (b << 1) ^ (b << 6)
 }
 
+// Three folds, and no one function of the powers: what x^k leaves, and how many bits come in, it would have to ask of its callers.
+//
 // In 38 bits: x^32 leaves x^6 + x^2 + 1.
 fn fold_32(w: u64) -> u64
     ensures { (residue 8 result ≡ residue 8 w) × (result < 2 ^ 38) }

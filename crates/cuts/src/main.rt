@@ -9,10 +9,11 @@ ghost use Rattle.parser.specs.Parser.{Nexts};
 
 use numbered::Answered;
 use parser::{CrsfParser, Stepped, held_len, next_raw_packet, position, reset};
-use refusals::{Row, row_of};
+use refusals::row_of;
+use std::io::Read;
+use std::{fmt, io};
 use stream::step::{Reply, asks_for_more};
 use view::frame;
-use writing::Written;
 
 // How the parser is kept from call to call, and from piece to piece.
 #[derive(Clone, Copy)]
@@ -22,58 +23,52 @@ enum Way {
     Saved,
 }
 
-// The standard output.
-const STDOUT_FILENO: i32 = 1;
+impl fmt::Display for Way {
+    fn fmt<W: fmt::Write>(&self, f: &mut fmt::Formatter<W>) -> fmt::Result {
+        match self {
+            Way::ByValue => write!(f, "by value"),
+            Way::Lent => write!(f, "lent"),
+            Way::Saved => write!(f, "saved"),
+        }
+    }
+}
+
+// Bytes in hexadecimal.
+#[derive(Clone, Copy)]
+struct Hex<'a>(&'a [u8]);
+
+impl fmt::Display for Hex<'_> {
+    fn fmt<W: fmt::Write>(&self, f: &mut fmt::Formatter<W>) -> fmt::Result {
+        for byte in self.0 {
+            write!(f, "{byte:02x}")?;
+        }
+        Ok(())
+    }
+}
+
+// How much of the standard input is read.
+const MOST: u64 = 4096;
 
 // How long a saved form is at most.
 const LONGEST: usize = 75;
 
-fn print(n: usize) {
-    io::print_decimal(STDOUT_FILENO, n as u64);
-}
-
-fn print_position(position: u64) {
-    io::write_all(STDOUT_FILENO, b"@");
-    io::print_decimal(STDOUT_FILENO, position);
-}
-
-fn print_row(row: Row) {
-    print(row.number as usize);
-    io::write_all(STDOUT_FILENO, b" ");
-    print(row.first);
-    io::write_all(STDOUT_FILENO, b" ");
-    print(row.second);
-    io::write_all(STDOUT_FILENO, b", ");
-}
-
-fn print_frame(bytes: &[u8]) {
-    io::write_all(STDOUT_FILENO, b"0 ");
-    let mut i = 0;
-    while i < bytes.len() {
-        io::print_hex(STDOUT_FILENO, bytes[i] as u64, 2);
-        i += 1;
-    }
-    io::write_all(STDOUT_FILENO, b", ");
-}
-
-// What a call said of the piece, or of the held bytes' places after it.
-fn print_reply<'a>(reply: Reply, piece: &'a [u8], places: &'a [u8]) {
-    match reply {
-        Reply::More => {}
-        Reply::Frame(_) => print_frame(frame(reply, piece, places)),
-        Reply::Refused(refusal) => print_row(row_of(refusal)),
-    }
-}
-
-// Where an answer began, and the answer.
-fn print_answer<'a>(answered: Answered, piece: &'a [u8], places: &'a [u8]) {
+// Where an answer began, and the answer: what a call said of the piece, or of the held bytes' places after it.
+fn print_answer(
+    rt: &impl Print,
+    answered: Answered,
+    piece: &[u8],
+    places: &[u8],
+) -> io::Result<()> {
+    let position = answered.position;
     let reply = answered.reply;
-    if asks_for_more(reply) {
-        return;
+    match reply {
+        Reply::More => Ok(()),
+        Reply::Frame(_) => print!(rt; "@{position} 0 {}, ", Hex(frame(reply, piece, places))),
+        Reply::Refused(refusal) => {
+            let row = row_of(refusal);
+            print!(rt; "@{position} {} {} {}, ", row.number, row.first, row.second)
+        }
     }
-    print_position(answered.position);
-    io::write_all(STDOUT_FILENO, b" ");
-    print_reply(reply, piece, places);
 }
 
 // One call of a parser that is lent and handed back.
@@ -92,129 +87,90 @@ fn next(p: CrsfParser, way: Way, input: &[u8]) -> Stepped
     ensures { Nexts p input.now result }
 {
     match way {
-        Way::ByValue => next_raw_packet(p, input),
+        Way::ByValue | Way::Saved => next_raw_packet(p, input),
         Way::Lent => lend(p, input),
-        Way::Saved => next_raw_packet(p, input),
     }
 }
 
-// A new parser that goes on from a form, of all of the bytes or of so many of them.
-fn resumed(form: &[u8]) -> CrsfParser {
-    saved::restore(parser::new(), form).parser
-}
-
-fn restored(form: &[u8], size: usize) -> CrsfParser {
-    if form.len() < size {
-        return parser::new();
-    }
-    resumed(&form[0..size])
-}
-
-// Where a save or a restore is refused, a new stream begins, and the positions show it.
+// A new parser that goes on from the saved form. Where a save or a restore is refused, a new stream begins, and the positions show it.
 fn saved_and_restored(p: CrsfParser) -> CrsfParser {
     let mut form = [0u8; LONGEST];
-    let written = saved::save(p, &mut form);
-    match written {
-        Written::Wrote(size) => restored(&form, size),
-        Written::Refused(_) => parser::new(),
+    match saved::save(p, &mut form) {
+        Ok(size) if size <= LONGEST => saved::restore(parser::new(), &form[..size]).parser,
+        _ => parser::new(),
     }
 }
 
 // The parser for the next piece.
 fn kept(p: CrsfParser, way: Way) -> CrsfParser {
     match way {
-        Way::ByValue => p,
-        Way::Lent => p,
+        Way::ByValue | Way::Lent => p,
         Way::Saved => saved_and_restored(p),
     }
 }
 
 // Calls on one piece, until the parser asks for more.
 #[tactic(auto, using(parser::proofs::Held::takes_within))]
-fn feed(before: CrsfParser, way: Way, piece: &[u8]) -> CrsfParser {
+fn feed(rt: &impl Print, before: CrsfParser, way: Way, piece: &[u8]) -> io::Result<CrsfParser> {
     let mut p = before;
-    let mut at = 0;
-    let mut left: usize = 5000;
-    while 0 < left {
-        let rest = &piece[at..];
+    let mut rest = piece;
+    for _ in 0..5000 {
         let out = next(p, way, rest);
         p = out.parser;
-        let answered = out.answered;
-        let reply = answered.reply;
-        let places = p.buffer;
-        print_answer(answered, rest, &places);
-        at += answered.taken;
-        if asks_for_more(reply) {
-            return p;
+        print_answer(rt, out.answered, rest, &p.buffer)?;
+        if asks_for_more(out.answered.reply) {
+            break;
         }
-        left -= 1;
+        rest = &rest[out.answered.taken..];
     }
-    p
-}
-
-fn least(a: usize, b: usize) -> usize
-    requires { (1 ≤ a) × (1 ≤ b) }
-    ensures { (1 ≤ result) × (result ≤ b) }
-{
-    if a < b { a } else { b }
+    Ok(p)
 }
 
 // A new stream, whatever the parser held before.
-fn feed_all(before: CrsfParser, way: Way, input: &[u8], size: usize) -> CrsfParser
+fn feed_all(
+    rt: &impl Print,
+    before: CrsfParser,
+    way: Way,
+    input: &[u8],
+    size: usize,
+) -> io::Result<CrsfParser>
     requires { 1 ≤ size }
 {
     let mut p = reset(before);
-    let mut at = 0;
-    while at < input.len() {
-        let stop = at + least(size, input.len() - at);
-        p = kept(feed(p, way, &input[at..stop]), way);
-        at = stop;
+    for piece in input.chunks(size) {
+        p = kept(feed(rt, p, way, piece)?, way);
     }
-    p
+    Ok(p)
 }
 
-fn print_way(way: Way) {
-    match way {
-        Way::ByValue => {
-            io::write_all(STDOUT_FILENO, b"by value, ");
-        }
-        Way::Lent => {
-            io::write_all(STDOUT_FILENO, b"lent, ");
-        }
-        Way::Saved => {
-            io::write_all(STDOUT_FILENO, b"saved, ");
-        }
-    }
-}
-
-fn report(before: CrsfParser, way: Way, input: &[u8], size: usize) -> CrsfParser
+fn report(
+    rt: &impl Print,
+    before: CrsfParser,
+    way: Way,
+    input: &[u8],
+    size: usize,
+) -> io::Result<CrsfParser>
     requires { 1 ≤ size }
 {
-    print_way(way);
-    print(size);
-    io::write_all(STDOUT_FILENO, b": ");
-    let p = feed_all(before, way, input, size);
-    print(held_len(p));
-    io::write_all(STDOUT_FILENO, b" held ");
-    print_position(position(p));
-    io::write_all(STDOUT_FILENO, b"\n");
-    p
+    print!(rt; "{way}, {size}: ")?;
+    let p = feed_all(rt, before, way, input, size)?;
+    println!(rt; "{} held @{}", held_len(p), position(p))?;
+    Ok(p)
 }
 
-fn report_all(way: Way, input: &[u8]) {
-    let a = report(parser::new(), way, input, 1);
-    let b = report(a, way, input, 2);
-    let c = report(b, way, input, 3);
-    let d = report(c, way, input, 7);
-    let e = report(d, way, input, 16);
-    let f = report(e, way, input, 64);
-    report(f, way, input, 4096);
+fn report_all(rt: &impl Print, way: Way, input: &[u8]) -> io::Result<()> {
+    let mut p = parser::new();
+    for size in [1, 2, 3, 7, 16, 64, 4096] {
+        p = report(rt, p, way, input, size)?;
+    }
+    Ok(())
 }
 
-fn main() {
-    let mut buf = io::buffer();
-    let n = io::read_full(0, &mut buf);
-    report_all(Way::ByValue, &buf[..n]);
-    report_all(Way::Lent, &buf[..n]);
-    report_all(Way::Saved, &buf[..n]);
+fn main(rt: HostRuntime) -> io::Result<()> {
+    let mut input = Vec::new(rt.alloc());
+    rt.stdin().take(MOST).read_to_end(&mut input)?;
+    for way in [Way::ByValue, Way::Lent, Way::Saved] {
+        report_all(&rt, way, &input)?;
+    }
+    Ok(())
 }

@@ -1,7 +1,7 @@
 -- What the loop over two blocks keeps: the blocks are as long as they were, the unread bytes stand in them, and all that was compared and written so far
 -- is a run of crate comparing, whose uploads are what was read.
 -- Assumes nothing.
-use mathlib.Core.Path.{◌≡◌, refl, ◌∙◌}
+use mathlib.Core.Path.{◌≡◌, refl, ap, ◌∙◌}
 use mathlib.Core.Bool.{Bool, false}
 use mathlib.Core.List.{List, []}
 use Prim.Native.Nat.{ℕ, ◌+◌, ◌-◌, ◌≤◌}
@@ -13,12 +13,11 @@ use Rattle.comparing.specs.Call.{is_whole, wants_left, wants_right, compared_of}
 use Rattle.comparing.specs.Run.{Upload, fresh, Run, begin}
 use Rattle.comparing.specs.declared.Compared.{Compared}
 use Rattle.comparing.specs.declared.Wants.{Wants}
-use Rattle.comparing.specs.declared.Wants.TheVariants.{Left, Right, Room, Nothing, Refused}
 use Rattle.comparing.proofs.Progress.{Asks}
-use Rattle.diff_io.specs.State.{Sound, Feeds, is_over}
+use Rattle.diff_io.specs.State.{Sound, Fills}
 use Rattle.diff_io.specs.declared.Fed.{Fed}
 use Rattle.diff_io.proofs.Asked.{left_by, right_by}
-use Rattle.diff_io.proofs.Laws.{Holds, call_on, left_on, right_on, fed_on}
+use Rattle.diff_io.proofs.Laws.{Holds, Feeds, call_on, left_on, right_on, fed_on}
 
 pub record Kept (left₀ right₀ out₀ left right out : List ℕ) (l l-to : ℕ) (l-ends : Bool) (r r-to : ℕ) (r-ends : Bool) (agree differ : ℕ) : Type 0 where
   pub left_size : length left ≡ length left₀
@@ -48,13 +47,6 @@ begun left right out = record {
   right_holds = record { unread_is = refl; ends_is = refl };
 }
 
-not_whole : (w : Wants) → is_over w ≡ false → is_whole w ≡ false
-not_whole Left e = refl
-not_whole Right e = refl
-not_whole Room e = refl
-not_whole Nothing e = e
-not_whole (Refused r) e = refl
-
 module _ {left₀ right₀ out₀ left right out : List ℕ} {l l-to : ℕ} {l-ends : Bool} {r r-to : ℕ} {r-ends : Bool} {n d : ℕ}
     (kept : Kept left₀ right₀ out₀ left right out l l-to l-ends r r-to r-ends n d) where
   -- how many bytes of each upload are unread
@@ -74,25 +66,26 @@ module _ {left₀ right₀ out₀ left right out : List ℕ} {l l-to : ℕ} {l-e
 module _ {left₀ right₀ out₀ left right out : List ℕ} {l l-to : ℕ} {l-ends : Bool} {r r-to : ℕ} {r-ends : Bool} {n d : ℕ}
     (kept : Kept left₀ right₀ out₀ left right out l l-to l-ends r r-to r-ends n d) {outAfter : List ℕ} {c : Compared}
     (is : (c, outAfter) ≡ compared_of (part left l (l-to - l)) l-ends (part right r (r-to - r)) r-ends n d out)
-    (asks : Asks (part left l (l-to - l)) (part right r (r-to - r)) l-ends r-ends n d (length out) c) (goes : is_over c.wants ≡ false) where
+    (asks : Asks (part left l (l-to - l)) (part right r (r-to - r)) l-ends r-ends n d (length out) c) where
   -- one turn of the loop: a call, and a read where one is asked for
-  pub again : {left' right' : List ℕ} {x y : Fed} → length outAfter ≡ length out → l + c.left ≤ l-to → r + c.right ≤ r-to
-      → Feeds (wants_left c.wants) left (l + c.left) l-to l-ends left' x → length left' ≡ length left
-      → Feeds (wants_right c.wants) right (r + c.right) r-to r-ends right' y → length right' ≡ length right
-      → Kept left₀ right₀ out₀ left' right' outAfter x.from x.to x.ends y.from y.to y.ends c.agree c.differ
-  again out_same l-in r-in fed left-same fed' right-same =
-      let on = not_whole c.wants goes in
+  pub again : {w : Wants} {left' right' : List ℕ} {x y : Fed} → c.wants ≡ w → is_whole w ≡ false → length outAfter ≡ length out
+      → l + c.left ≤ l-to → r + c.right ≤ r-to
+      → Sound (length left) x.from x.to → Feeds (wants_left w) left (l + c.left) l-to l-ends left' x → length left' ≡ length left
+      → Sound (length right) y.from y.to → Feeds (wants_right w) right (r + c.right) r-to r-ends right' y → length right' ≡ length right
+      → Kept left₀ right₀ out₀ left' right' outAfter x.from x.to x.ends y.from y.to y.ends c.counts.agree c.counts.differ
+  again {w} wants going out_same l-in r-in x-sound fed left-same y-sound fed' right-same =
+      let on = ap is_whole wants ∙ going in
       let run = call_on out kept.run kept.left_holds kept.right_holds is on in
       let lh = left_on out kept.run kept.left_holds kept.right_holds is on l-in in
       let rh = right_on out kept.run kept.left_holds kept.right_holds is on r-in in
-      let lg = fed_on lh fed (λ e. kept.left_holds.ends_is ∙ (asks.more_left (left_by c.wants e)).0) in
-      let rg = fed_on rh fed' (λ e. kept.right_holds.ends_is ∙ (asks.more_right (right_by c.wants e)).0) in
+      let lg = fed_on lh fed (λ e. kept.left_holds.ends_is ∙ (asks.more_left (wants ∙ left_by w e)).0) in
+      let rg = fed_on rh fed' (λ e. kept.right_holds.ends_is ∙ (asks.more_right (wants ∙ right_by w e)).0) in
       record {
         left_size = left-same ∙ kept.left_size;
         right_size = right-same ∙ kept.right_size;
         out_size = out_same ∙ kept.out_size;
-        left_sound = record { ordered = fed.sound.ordered; inside = omega (arith, fed.sound.inside) };
-        right_sound = record { ordered = fed'.sound.ordered; inside = omega (arith, fed'.sound.inside) };
+        left_sound = record { ordered = x-sound.ordered; inside = omega (arith, x-sound.inside) };
+        right_sound = record { ordered = y-sound.ordered; inside = omega (arith, y-sound.inside) };
         u = lg.next;
         v = rg.next;
         text = _;
@@ -100,3 +93,7 @@ module _ {left₀ right₀ out₀ left right out : List ℕ} {l l-to : ℕ} {l-e
         left_holds = lg.holds;
         right_holds = rg.holds;
       }
+
+-- the bytes that a read leaves stand in their block
+pub filled_sound : {before after : List ℕ} {from to : ℕ} {x : Fed} → Fills before from to after x → Sound (length before) x.from x.to
+filled_sound f = record { ordered = omega (arith, f.first); inside = f.inside }

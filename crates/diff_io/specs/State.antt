@@ -1,16 +1,15 @@
 -- What the program promises of its blocks, of how a comparison ends, and of its status.
 -- Assumes nothing.
-use Rattle.std.specs.Prelude.{ℕ, ◌-◌, ◌≤◌, ◌<◌, ◌≡◌, Bool, true, false, List, eqb, length, take}
+use Rattle.std.specs.Prelude.{Result, Ok, Err, ℕ, ◌-◌, ◌≤◌, ◌<◌, ◌≡◌, Bool, true, false, List, eqb, length, take}
 use Rattle.base.specs.Choice.{when◌then◌else◌}
 use Rattle.base.specs.Parts.{part}
 use Rattle.reading.specs.Reading.{limit}
-use Rattle.comparing.specs.declared.Wants.{Wants}
-use Rattle.comparing.specs.declared.Wants.TheVariants.{Left, Right, Room, Nothing, Refused}
 use Rattle.program.specs.declared.argument.Asked.{Asked}
 use Rattle.program.specs.declared.argument.Asked.TheVariants.{Input, File, Help, Version, Failed}
 use Rattle.program.specs.declared.argument.Asked.TheVariants as asked
-use Rattle.diff_io.specs.declared.Ended.{Ended}
-use Rattle.diff_io.specs.declared.Ended.TheVariants.{Same, Other, LeftFailed, RightFailed, WriteFailed, Uncounted}
+use Rattle.diff_io.specs.declared.Found.{Found}
+use Rattle.diff_io.specs.declared.Found.TheVariants.{Same, Other}
+use Rattle.diff_io.specs.declared.Stopped.{Stopped}
 use Rattle.diff_io.specs.declared.Fed.{Fed}
 
 -- the unread bytes of an upload stand in its block from one place up to another
@@ -32,36 +31,15 @@ pub record Fills (before : List ℕ) (from to : ℕ) (after : List ℕ) (r : Fed
   pub inside : r.to ≤ length before
   pub ends_is : r.ends ≡ eqb r.to (to - from)
 
--- .. where that is asked for; else all is as it was
-pub record Feeds (wanted : Bool) (before : List ℕ) (from to : ℕ) (ends : Bool) (after : List ℕ) (r : Fed) : Type 0 where
-  pub sound : Sound (length before) r.from r.to
-  pub stays : wanted ≡ false → (r ≡ record { from = from; to = to; ends = ends; has_failed = false }) × (after ≡ before)
-  pub fills : wanted ≡ true → Fills before from to after r
-
--- a comparison asks neither for more bytes nor for room
-abbrev pub is_over : Wants → Bool
-is_over Left = false
-is_over Right = false
-is_over Room = false
-is_over Nothing = true
-is_over (Refused r) = true
-
--- what comes of a comparison that goes no further
-abbrev pub ended_by : Wants → ℕ → Ended
-ended_by Left differ = LeftFailed
-ended_by Right differ = RightFailed
-ended_by Room differ = WriteFailed
-ended_by Nothing differ = when eqb differ 0 then Same else Other
-ended_by (Refused r) differ = Uncounted
+-- what a whole text says that names so many differences
+abbrev pub found_by : ℕ → Found
+found_by differ = when eqb differ 0 then Same else Other
 
 -- as of diff(1): 0 no difference, 1 a difference, 2 trouble
-abbrev pub status_of : Ended → ℕ
-status_of Same = 0
-status_of Other = 1
-status_of LeftFailed = 2
-status_of RightFailed = 2
-status_of WriteFailed = 2
-status_of Uncounted = 2
+abbrev pub status_of : Result Found Stopped → ℕ
+status_of (Ok Same) = 0
+status_of (Ok Other) = 1
+status_of (Err stopped) = 2
 
 -- 0 only where all of a text was written
 abbrev pub status_printed : Bool → ℕ
@@ -70,7 +48,7 @@ status_printed all = when all then 0 else 2
 -- an argument names an upload, or is none that can be read
 abbrev pub is_upload : Asked → Bool
 is_upload Input = true
-is_upload File = true
+is_upload (File name) = true
 is_upload Help = false
 is_upload Version = false
 is_upload Failed = true

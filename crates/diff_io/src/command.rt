@@ -1,19 +1,18 @@
 // The arguments of the program diff, what it reports, and its status.
 ghost use Rattle.std.specs.Prelude.{◌≡◌, ◌≤◌};
-ghost use Rattle.program.specs.Counts.{IsPrefixLen};
+ghost use Rattle.std.specs.Result.{is_ok};
 ghost use Rattle.diff_io.specs.State.{status_of, is_upload, status_printed};
 
-use crate::{Ended, compare_inputs};
+use crate::{Found, Stopped, compare_inputs};
 use program::{
-    Arguments, Asked, Console, Input, Source, after_print, asked_by, is_given, open_source, print,
-    say,
+    Asked, Console, Failed, Input, Source, after_print, asked_by, is_given, open_source, print, say,
 };
 use std::env::Env;
 use std::io::Read;
 
 const USAGE: [u8; 46] = *b"usage: diff LEFT RIGHT; diff --help says more\n";
 
-fn print_help(console: &Console<'_>) -> bool {
+fn print_help(console: &Console<'_>) -> Result<(), Failed> {
     print(
         console,
         b"usage: diff LEFT RIGHT
@@ -36,33 +35,19 @@ usage.
     )
 }
 
+// A read or a write that fails is told there.
 fn tell_uncounted(console: &Console<'_>) {
     say(console, console.name);
     say(console, b": more pairs than can be counted\n");
 }
 
-// What is not told yet: a read or a write that fails is told there.
-fn tell_end(console: &Console<'_>, ended: Ended) {
-    match ended {
-        Ended::Same => {}
-        Ended::Other => {}
-        Ended::LeftFailed => {}
-        Ended::RightFailed => {}
-        Ended::WriteFailed => {}
-        Ended::Uncounted => tell_uncounted(console),
-    }
-}
-
-fn status_of(ended: Ended) -> u8
+fn status_of(ended: Result<Found, Stopped>) -> u8
     ensures { (result ≡ status_of ended) × (result ≤ 2) }
 {
     match ended {
-        Ended::Same => 0,
-        Ended::Other => 1,
-        Ended::LeftFailed => 2,
-        Ended::RightFailed => 2,
-        Ended::WriteFailed => 2,
-        Ended::Uncounted => 2,
+        Ok(Found::Same) => 0,
+        Ok(Found::Other) => 1,
+        Err(_) => 2,
     }
 }
 
@@ -70,7 +55,7 @@ fn status_of(ended: Ended) -> u8
 fn unopened(console: &Console<'_>, line: &[u8]) -> u8
     ensures { result ≡ 2 }
 {
-    print(console, line);
+    let _ = print(console, line);
     2
 }
 
@@ -86,23 +71,13 @@ fn is_input_open(console: &Console<'_>) -> bool {
     }
 }
 
-fn is_input(asked: Asked) -> bool {
-    match asked {
-        Asked::Input => true,
-        Asked::File => false,
-        Asked::Help => false,
-        Asked::Version => false,
-        Asked::Failed => false,
-        Asked::Refused => false,
-    }
+fn is_input(asked: Asked<'_>) -> bool {
+    matches!(asked, Asked::Input)
 }
 
 // Whether standard input is there, where it is asked for. That is asked before any file is opened, which may get its number where it is closed.
-fn has_input(console: &Console<'_>, left: Asked, right: Asked) -> bool {
-    if is_input(left) {
-        return is_input_open(console);
-    }
-    if is_input(right) {
+fn has_input(console: &Console<'_>, left: Asked<'_>, right: Asked<'_>) -> bool {
+    if is_input(left) || is_input(right) {
         return is_input_open(console);
     }
     true
@@ -126,100 +101,68 @@ fn open_input<'a>(console: &Console<'_>, has_input: bool) -> Option<Input<'a>> {
 }
 
 // An upload, where it can be opened.
-fn open_upload<'a>(
-    console: &Console<'_>,
-    asked: Asked,
-    path: &'a [u8],
-    has_input: bool,
-) -> Option<Input<'a>> {
+fn open_upload<'a>(console: &Console<'_>, asked: Asked<'a>, has_input: bool) -> Option<Input<'a>> {
     match asked {
         Asked::Input => open_input(console, has_input),
-        Asked::File => open_file(console, path),
-        Asked::Help => None,
-        Asked::Version => None,
-        Asked::Failed => None,
-        Asked::Refused => None,
+        Asked::File(path) => open_file(console, path),
+        _ => None,
     }
 }
 
 // Both are opened before anything is written. Standard input is one upload at most.
-pub(crate) fn compare_both(
-    console: &Console<'_>,
-    left: Asked,
-    left_path: &[u8],
-    right: Asked,
-    right_path: &[u8],
-) -> u8
+pub(crate) fn compare_both(console: &Console<'_>, left: Asked<'_>, right: Asked<'_>) -> u8
     ensures { result ≤ 2 }
 {
     let has_input = has_input(console, left, right);
-    let Some(mut left_input) = open_upload(console, left, left_path, has_input) else {
+    let Some(mut left_input) = open_upload(console, left, has_input) else {
         return unopened(console, b"unopened 1\n");
     };
-    if is_input(left) {
-        if is_input(right) {
-            return unopened(console, b"unopened 2\n");
-        }
+    if is_input(left) && is_input(right) {
+        return unopened(console, b"unopened 2\n");
     }
-    let Some(mut right_input) = open_upload(console, right, right_path, has_input) else {
+    let Some(mut right_input) = open_upload(console, right, has_input) else {
         return unopened(console, b"unopened 2\n");
     };
     let ended = compare_inputs(console, &mut left_input, &mut right_input);
-    tell_end(console, ended);
+    if matches!(ended, Err(Stopped::Uncounted)) {
+        tell_uncounted(console);
+    }
     status_of(ended)
 }
 
 // Argument i, which comes to the buffer. One that is missing or too long is an upload that can't be opened.
-fn read_upload(console: &Console<'_>, i: usize, word: &mut [u8]) -> Arguments
-    ensures { IsPrefixLen result.len word.new }
-{
+fn read_upload<'a>(console: &Console<'_>, i: usize, word: &'a mut [u8]) -> Asked<'a> {
     match console.rt.arg(i, word) {
-        Ok(len) => {
-            let asked = asked_by(console, &USAGE, &word[..len]);
-            Arguments { asked, len }
-        }
-        Err(_) => Arguments {
-            asked: Asked::Failed,
-            len: 0,
-        },
+        Ok(len) => asked_by(console, &USAGE, &word[..len]),
+        Err(_) => Asked::Failed,
     }
 }
 
 // An upload, and nothing else, is asked for.
-fn is_upload(asked: Asked) -> bool
-    ensures { result ≡ is_upload asked }
+fn is_upload(asked: Asked<'_>) -> bool
+    ensures { result ≡ is_upload asked.entry }
 {
-    match asked {
-        Asked::Input => true,
-        Asked::File => true,
-        Asked::Help => false,
-        Asked::Version => false,
-        Asked::Failed => true,
-        Asked::Refused => false,
-    }
+    matches!(asked, Asked::Input | Asked::File(_) | Asked::Failed)
 }
 
 // The status of a text that was printed or not.
-fn after_text(is_written: bool) -> u8
-    ensures { (result ≡ status_printed is_written) × (result ≤ 2) }
+fn after_text(written: Result<(), Failed>) -> u8
+    ensures { (result ≡ status_printed (is_ok written)) × (result ≤ 2) }
 {
-    if after_print(is_written) == 0 {
+    if after_print(written) == 0 {
         return 0;
     }
     2
 }
 
 // Anything else that an argument asks for.
-fn answer(console: &Console<'_>, asked: Asked) -> u8
+fn answer(console: &Console<'_>, asked: Asked<'_>) -> u8
     ensures { result ≤ 2 }
 {
     match asked {
-        Asked::Input => 2,
-        Asked::File => 2,
         Asked::Help => after_text(print_help(console)),
         Asked::Version => after_text(print(console, b"diff 0.8.0\n")),
-        Asked::Failed => 2,
-        Asked::Refused => 2,
+        _ => 2,
     }
 }
 
@@ -235,21 +178,13 @@ pub(crate) fn command(console: &Console<'_>) -> u8
     }
     let mut left_word = [0u8; 4096];
     let left = read_upload(console, 1, &mut left_word);
-    let left_asked = left.asked;
-    if !is_upload(left_asked) {
-        return answer(console, left_asked);
+    if !is_upload(left) {
+        return answer(console, left);
     }
     let mut right_word = [0u8; 4096];
     let right = read_upload(console, 2, &mut right_word);
-    let right_asked = right.asked;
-    if !is_upload(right_asked) {
-        return answer(console, right_asked);
+    if !is_upload(right) {
+        return answer(console, right);
     }
-    compare_both(
-        console,
-        left_asked,
-        &left_word[..left.len],
-        right_asked,
-        &right_word[..right.len],
-    )
+    compare_both(console, left, right)
 }

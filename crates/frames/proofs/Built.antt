@@ -1,5 +1,6 @@
 -- What the writer's steps leave, head and check byte about a payload in its place, is the frame.
 -- Assumes nothing.
+use Rattle.std.specs.Prelude.{Ok, Err}
 use mathlib.Core.Path.{◌≡◌, sym, ap, ◌∙◌}
 use mathlib.Core.List.{List, [], ◌∷◌, ◌++◌, append_assoc}
 use Prim.Native.Nat.{ℕ, suc, ◌+◌, ◌≤◌, ◌<◌}
@@ -13,7 +14,6 @@ use Rattle.crc.specs.Remainder.{remainder}
 use Rattle.reading.specs.Frame.{frame}
 use Rattle.refusals.specs.declared.Refusal.TheVariants.{BufferOverflow}
 use Rattle.writing.specs.Writing.{bytes, written_row, write_of}
-use Rattle.writing.specs.declared.Written.TheVariants.{Wrote, Refused}
 use Rattle.writing.proofs.Writing.{writes, overflows}
 use Rattle.frames.specs.Frames.{framed_body}
 
@@ -70,7 +70,7 @@ module _ (pay : List ℕ) (n dest kind : ℕ) (long : length pay ≡ n) where
   frame_size_lem = omega (arith, length-append pay (remainder (kind ∷ pay) ∷ []))
 
   module _ (b : List ℕ) where
-    pub short : length b < n + 4 → (written_row (Refused BufferOverflow), b) ≡ write_of (framed_body dest kind (bytes pay)) b
+    pub short : length b < n + 4 → (written_row (Err BufferOverflow), b) ≡ write_of (framed_body dest kind (bytes pay)) b
     unfolding framed_body
     short = overflows (frame dest (kind ∷ pay)) b (n + 4) frame_size_lem
 
@@ -112,6 +112,6 @@ module _ (pay : List ℕ) (n dest kind : ℕ) (long : length pay ≡ n) where
           ∙ covered
 
       pub sealed : {b' after : List ℕ} → b' ≡ pasted b 3 pay → after ≡ pasted b' 0 (frame dest (kind ∷ part b' 3 n))
-          → (written_row (Wrote (n + 4)), after) ≡ write_of (framed_body dest kind (bytes pay)) b
+          → (written_row (Ok (n + 4)), after) ≡ write_of (framed_body dest kind (bytes pay)) b
       unfolding framed_body
       sealed e sealed-so = rw (stored e sealed-so) (writes (frame dest (kind ∷ pay)) b (n + 4) frame_size_lem room)

@@ -1,7 +1,7 @@
 -- Whole frames (RULES 4): address, length, type, payload, check byte. Their writers refuse a bad address first, then what the record's own writer
 -- refuses, then a buffer that is too short (RULES 1).
 -- Assumes nothing.
-use Rattle.std.specs.Prelude.{ℕ, ◌+◌, ◌-◌, ◌≤◌, ◌<◌, List, ◌∷◌, leb, length}
+use Rattle.std.specs.Prelude.{ℕ, ◌+◌, ◌-◌, List, ◌∷◌, Ok, Err}
 use Rattle.base.specs.Choice.{when◌then◌else◌}
 use Rattle.base.specs.Parts.{part, pasted}
 use Rattle.packets.specs.Listed.{listed}
@@ -9,8 +9,7 @@ use Rattle.reading.specs.Frame.{frame}
 use Rattle.reading.specs.Reading.{limit}
 use Rattle.refusals.specs.declared.Refusal.TheVariants.{BadAddress}
 use Rattle.writing.specs.Writing.{Image, bytes, refused}
-use Rattle.writing.specs.declared.Written.{Written}
-use Rattle.writing.specs.declared.Written.TheVariants.{Wrote, Refused}
+use Rattle.writing.specs.Writing.{Written}
 
 -- a payload, or its refusal, as a frame
 unfoldable pub framed_body : ℕ → ℕ → Image → Image
@@ -30,21 +29,12 @@ overhead = 4
 abbrev pub most_payload : ℕ
 most_payload = limit - overhead
 
--- where the payload starts in a buffer of that many bytes: behind the head. A buffer with no room for head and check byte has no place for one
-unfoldable pub payload_start : ℕ → ℕ
-payload_start len = when leb overhead len then 3 else 0
-
--- what a payload may be: of 1 to 60 bytes, or refused
-abbrev pub Small : Image → Type 0
-Small (bytes bs) = (0 < length bs) × (length bs ≤ most_payload)
-Small (refused r) = Unit {0}
-
 -- the bytes of the frame where a record's own writer answers so
 abbrev pub whole_in : Written → ℕ
-whole_in (Wrote n) = n + overhead
-whole_in (Refused r) = 0
+whole_in (Ok n) = n + overhead
+whole_in (Err r) = 0
 
 -- .. and that frame, about what stands in the payload's places; or the refusal, and every byte kept
 unfoldable pub sealed_of : ℕ → ℕ → Written → List ℕ → Written × List ℕ
-sealed_of dest kind (Wrote n) buffer = (Wrote (n + overhead), pasted buffer 0 (frame dest (kind ∷ part buffer 3 n)))
-sealed_of dest kind (Refused r) buffer = (Refused r, buffer)
+sealed_of dest kind (Ok n) buffer = (Ok (n + overhead), pasted buffer 0 (frame dest (kind ∷ part buffer 3 n)))
+sealed_of dest kind (Err r) buffer = (Err r, buffer)

@@ -1,15 +1,15 @@
 // What a frame has about its payload, and what its writer answers.
-ghost use Rattle.std.specs.Prelude.{◌≡◌, [], ◌∷◌, ◌+◌, ◌-◌, ◌≤◌, ◌<◌, length};
+ghost use Rattle.std.specs.Prelude.{◌≡◌, [], ◌∷◌, ◌+◌, ◌≤◌, ◌<◌, length};
 ghost use Rattle.std.proofs.Math.Seq.{slice};
 ghost use Rattle.base.specs.Parts.{part, pasted};
 ghost use Rattle.crc.specs.Remainder.{remainder};
 ghost use Rattle.reading.specs.Frame.{frame};
 ghost use Rattle.reading.specs.Reading.{limit};
-ghost use Rattle.frames.specs.Frames.{overhead, most_payload, payload_start, whole_in, sealed_of};
+ghost use Rattle.frames.specs.Frames.{overhead, most_payload, whole_in, sealed_of};
 
 use base::narrow;
 use crc::checksum_fresh;
-use writing::Written;
+use refusals::Refusal;
 
 // Address, length byte and type.
 pub(crate) const HEAD: usize = 3;
@@ -44,37 +44,18 @@ pub(crate) fn seal(buffer: &mut [u8], dest: u8, kind: u8, size: usize)
     put_check(buffer, size + HEAD);
 }
 
-// The first place of the payload in a buffer of that many bytes, behind the head. A buffer with no room for head and check byte has no place
-// for a payload.
-pub(crate) fn payload_start(len: usize) -> usize
-    ensures { result ≡ payload_start len }
-{
-    if len < OVERHEAD {
-        return 0;
-    }
-    HEAD
-}
-
-// How many places there are from there on, before that of the check byte.
-pub(crate) fn payload_room(len: usize) -> usize
-    ensures { (result ≡ len - overhead) × (payload_start len + result ≤ len) }
-{
-    if len < OVERHEAD {
-        return 0;
-    }
-    len - OVERHEAD
-}
-
 // The frame of what a record's own writer left in the payload's places, or its refusal.
-pub(crate) fn sealed(buffer: &mut [u8], dest: u8, kind: u8, written: Written) -> Written
+#[tactic(auto, unfolding(crate::specs::Frames::sealed_of))]
+pub(crate) fn sealed(
+    buffer: &mut [u8],
+    dest: u8,
+    kind: u8,
+    written: Result<usize, Refusal>,
+) -> Result<usize, Refusal>
     requires { (whole_in written ≤ limit) × (whole_in written ≤ length buffer.old) }
     ensures { (result, buffer.new) ≡ sealed_of dest kind written buffer.old }
 {
-    match written {
-        Written::Wrote(size) => {
-            seal(buffer, dest, kind, size);
-            Written::Wrote(size + OVERHEAD)
-        }
-        Written::Refused(refusal) => Written::Refused(refusal),
-    }
+    let size = written?;
+    seal(buffer, dest, kind, size);
+    Ok(size + OVERHEAD)
 }

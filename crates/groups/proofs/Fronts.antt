@@ -1,5 +1,6 @@
 -- What the loop over a string knows after each byte: the rest of the string, read on from there, is read as the whole.
 -- Assumes nothing.
+use Rattle.std.specs.Prelude.{Err}
 use mathlib.Core.Path.{◌≡◌, refl, sym, ap, ◌∙◌}
 use mathlib.Core.List.{List, ◌∷◌}
 use Prim.Native.Nat.{ℕ, ◌+◌, ◌-◌, ◌≤◌, ◌<◌}
@@ -10,8 +11,8 @@ use lib.ListN.{length, get_or, drop, length-drop, drop_of_length-le}
 use lib.Seq.{drop-cons}
 use Rattle.groups.specs.declared.Step.{Step}
 use Rattle.groups.specs.declared.Step.TheVariants.{GoesOn, Done, Malformed}
-use Rattle.groups.specs.declared.Front.TheVariants as front
-use Rattle.groups.specs.Reading.{step, step_of, run, read, front_of}
+use Rattle.groups.specs.declared.Fault.TheVariants as fault
+use Rattle.groups.specs.Reading.{step, step_of, run, read, front_of, numbered}
 use Rattle.groups.proofs.Reading.{run_on, run_done, run_bad, on_below}
 
 -- after i bytes: the value and the weight so far
@@ -25,7 +26,7 @@ none_passed g s = record { inside = omega arith; state = omega arith; so_far = r
 
 module _ {g : ℕ} {s : List ℕ} {v w i : ℕ} (p : Passed g s v w i) where
   -- the string ends inside the number
-  pub front_unfinished : length s ≤ i → front.Unfinished ≡ front_of (length s) (read g s)
+  pub front_unfinished : length s ≤ i → Err fault.Unfinished ≡ front_of (length s) (read g s)
   unfolding run front_of
   front_unfinished over = ap (front_of (length s)) (sym (ap (run g v w) (drop_of_length-le s over)) ∙ p.so_far)
 
@@ -44,12 +45,12 @@ module _ {g : ℕ} {s : List ℕ} {v w i : ℕ} (p : Passed g s v w i) where
           so_far = sym (run_on g v w (get_or s i 0) (drop (i + 1) s) (is_step e)) ∙ split;
         }
 
-    pub front_number : {n : ℕ} → r ≡ Done n → front.Number n (i + 1) ≡ front_of (length s) (read g s)
+    pub front_number : {n : ℕ} → r ≡ Done n → numbered n (i + 1) ≡ front_of (length s) (read g s)
     unfolding front_of
     front_number {n} e =
         let size : i + 1 ≡ length s - length (drop (i + 1) s) = simp length-drop (omega arith) in
-        ap (front.Number n) size ∙ ap (front_of (length s)) (sym (run_done g v w (get_or s i 0) (drop (i + 1) s) (is_step e)) ∙ split)
+        ap (λ (k : ℕ). numbered n k) size ∙ ap (front_of (length s)) (sym (run_done g v w (get_or s i 0) (drop (i + 1) s) (is_step e)) ∙ split)
 
-    pub front_malformed : r ≡ Malformed → front.Malformed ≡ front_of (length s) (read g s)
+    pub front_malformed : r ≡ Malformed → Err fault.Malformed ≡ front_of (length s) (read g s)
     unfolding front_of
     front_malformed e = ap (front_of (length s)) (sym (run_bad g v w (get_or s i 0) (drop (i + 1) s) (is_step e)) ∙ split)

@@ -1,5 +1,6 @@
 -- What the code's answers mean: the number at the front of a string and what stands behind it; a number that is written, and read again.
 -- Assumes nothing.
+use Rattle.std.specs.Prelude.{Ok, Err}
 use mathlib.Core.Path.{◌≡◌, refl, sym, ap, ap₂, ◌∙◌}
 use mathlib.Core.List.{List, [], ◌∷◌, ◌++◌}
 use Prim.Native.Nat.{ℕ, suc, ◌+◌, ◌-◌, ◌≤◌}
@@ -12,8 +13,7 @@ use Rattle.writing.specs.Writing.{bytes, write_of}
 use Rattle.groups.specs.Groups.{groups}
 use Rattle.groups.specs.Writing.{put_of}
 use Rattle.groups.specs.declared.Step.{Step}
-use Rattle.groups.specs.declared.Front.TheVariants as front
-use Rattle.groups.specs.Reading.{step, NumberRead, unfinished, ends, malformed, run, read, front_of}
+use Rattle.groups.specs.Reading.{step, NumberRead, unfinished, ends, malformed, run, read, Front, front_of, numbered}
 use Rattle.groups.proofs.Reading.{Case, on, many, zero_last, large, last, cases, run_on, run_done, run_bad, same_end, not_unfinished, not_malformed, written_reads}
 
 -- ---- what stands behind a number is the rest of the string
@@ -51,17 +51,25 @@ pub record Found (g : ℕ) (s : List ℕ) (n size : ℕ) : Type 0 where
   pub inside : size ≤ length s
   pub reading : read g s ≡ ends n (drop size s)
 
+value_of : Front → ℕ
+value_of (Ok number) = number.value
+value_of (Err fault) = 0
+
+size_of : Front → ℕ
+size_of (Ok number) = number.size
+size_of (Err fault) = 0
+
 module _ (g : ℕ) (s : List ℕ) where
-  pub found : {n size : ℕ} → front.Number n size ≡ front_of (length s) (read g s) → Found g s n size
-  unfolding front_of
+  pub found : {n size : ℕ} → numbered n size ≡ front_of (length s) (read g s) → Found g s n size
+  unfolding front_of value_of size_of
   found {n} {size} = by (read g s) refl
     where
-      by : (r : NumberRead) → read g s ≡ r → front.Number n size ≡ front_of (length s) r → Found g s n size
+      by : (r : NumberRead) → read g s ≡ r → numbered n size ≡ front_of (length s) r → Found g s n size
       by (ends k t) e q =
           let b = rest_of g s e in
-          let number : k ≡ n = cc in
+          let number : k ≡ n = sym (ap value_of q) in
           let left : length t ≡ length s - b.size = ap length b.behind ∙ length-drop b.size s in
-          let counted : size ≡ length s - length t = cc in
+          let counted : size ≡ length s - length t = ap size_of q in
           let same : b.size ≡ size = omega (arith, b.inside) in
           record {
             some = omega (arith, b.some);
@@ -72,11 +80,11 @@ module _ (g : ℕ) (s : List ℕ) where
       by (malformed t) e q = absurd (let z : ◌≡◌ {A = ℕ} 0 1 = cc in omega arith)
 
 -- the code reads what was written, and says how many bytes that is
-pub front_written : (g n : ℕ) (t : List ℕ) → n ≤ g → front_of (length (groups n ++ t)) (read g (groups n ++ t)) ≡ front.Number n (length (groups n))
+pub front_written : (g n : ℕ) (t : List ℕ) → n ≤ g → front_of (length (groups n ++ t)) (read g (groups n ++ t)) ≡ numbered n (length (groups n))
 unfolding front_of
 front_written g n t small =
     ap (front_of (length (groups n ++ t))) (written_reads g n t small)
-    ∙ ap (front.Number n) (rw (length-append (groups n) t) (omega arith))
+    ∙ ap (λ (k : ℕ). numbered n k) (rw (length-append (groups n) t) (omega arith))
 
 -- ---- what was written
 

@@ -1,7 +1,8 @@
 -- What the code's tests say of a step and of a form, at each return.
 -- Assumes nothing.
+use Rattle.std.specs.Prelude.{Ok, Err}
 use mathlib.Core.Path.{◌≡◌, refl, sym, ap, ap₂, ◌∙◌}
-use mathlib.Core.Bool.{Bool, true, false}
+use mathlib.Core.Bool.{true, false}
 use mathlib.Core.List.{List, [], ◌∷◌}
 use Prim.Native.Nat.{ℕ, zero, suc, ◌+◌, ◌*◌, ◌-◌, ◌≤◌, ◌<◌, ◌/◌, ◌%◌}
 use native.Mathlib.Nat.{div-lt_iff_lt-mul, le-div_iff_mul-le, mul-le-mul_right, mod-eq_of_lt}
@@ -14,7 +15,6 @@ use Rattle.base.proofs.Tests.{by_test}
 use Rattle.base.proofs.Parts.{set_pasted, pasted_append}
 use Rattle.groups.specs.declared.Step.TheVariants.{GoesOn, Done, Malformed}
 use Rattle.refusals.specs.declared.Refusal.TheVariants.{BufferOverflow}
-use Rattle.writing.specs.declared.Written.TheVariants.{Wrote, Refused}
 use Rattle.writing.specs.Writing.{wrote_row, written_row}
 use Rattle.groups.specs.Writing.{put_of}
 use Rattle.groups.specs.Groups.{groups_within, groups}
@@ -111,15 +111,12 @@ put_rest d at n b high room e =
 
 -- ---- all or nothing
 
--- what the test on room says, where the count is the number's
-pub room_is : (n at k : ℕ) (out : List ℕ) {t : Bool} → k ≡ length (groups n) → t ≡ fits_in (length out) at k → fits_in (length out) at (length (groups n)) ≡ t
-room_is n at k out e r = ap (fits_in (length out) at) (sym e) ∙ sym r
+module _ (n at k : ℕ) (out : List ℕ) (counted : k ≡ length (groups n)) where
+  pub put_room : {after : List ℕ} → fits_in (length out) at k ≡ true → after ≡ pasted out at (groups n) → (written_row (Ok k), after) ≡ put_of n at out
+  unfolding put_of written_row
+  put_room {after} room after_is =
+      simp (ap (fits_in (length out) at) (sym counted) ∙ room) (ap₂ (λ (x : ℕ) (l : List ℕ). (wrote_row x, l)) counted after_is)
 
-pub put_room : (n at k : ℕ) (out after : List ℕ) → k ≡ length (groups n) → fits_in (length out) at (length (groups n)) ≡ true
-    → after ≡ pasted out at (groups n) → (written_row (Wrote k), after) ≡ put_of n at out
-unfolding put_of written_row
-put_room n at k out after e r a = simp r (ap₂ (λ (x : ℕ) (l : List ℕ). (wrote_row x, l)) e a)
-
-pub put_none : (n at : ℕ) (out : List ℕ) → fits_in (length out) at (length (groups n)) ≡ false → (written_row (Refused BufferOverflow), out) ≡ put_of n at out
-unfolding put_of written_row
-put_none n at out r = simp r
+  pub put_none : fits_in (length out) at k ≡ false → (written_row (Err BufferOverflow), out) ≡ put_of n at out
+  unfolding put_of written_row
+  put_none none = simp (ap (fits_in (length out) at) (sym counted) ∙ none)

@@ -4,8 +4,8 @@ use Prim.Native.Nat.{ℕ}
 use mathlib.Core.List.{List}
 use Rattle.base.proofs.Unique.{OneAnswer, same}
 use Rattle.groups.specs.declared.Step.{Step}
-use Rattle.groups.specs.declared.Front.{Front}
-use Rattle.writing.specs.declared.Written.{Written}
+use Rattle.groups.specs.Reading.{Front}
+use Rattle.writing.specs.Writing.{Written}
 use Rattle.writing.proofs.Rows.{one_write}
 use Rattle.groups.proofs.next.Reads as next
 use Rattle.groups.proofs.read.Reads as read

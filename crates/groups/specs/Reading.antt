@@ -1,12 +1,13 @@
 -- A number read byte by byte, over the greatest that it may be. It is judged at its last byte, form first, or as soon as there are too many groups
 -- (RULES 9.2).
 -- Assumes nothing.
-use Rattle.std.specs.Prelude.{ℕ, ◌+◌, ◌*◌, ◌-◌, ◌&&◌, List, [], ◌∷◌, ltb, eqb, length}
+use Rattle.std.specs.Prelude.{ℕ, ◌+◌, ◌*◌, ◌-◌, ◌&&◌, List, [], ◌∷◌, ltb, eqb, length, Result, Ok, Err}
 use Rattle.base.specs.Choice.{when◌then◌else◌}
 use Rattle.groups.specs.declared.Step.{Step}
 use Rattle.groups.specs.declared.Step.TheVariants.{GoesOn, Done, Malformed}
-use Rattle.groups.specs.declared.Front.{Front}
-use Rattle.groups.specs.declared.Front.TheVariants as front
+use Rattle.groups.specs.declared.Number.{Number}
+use Rattle.groups.specs.declared.Fault.{Fault}
+use Rattle.groups.specs.declared.Fault.TheVariants.{Unfinished, Malformed as Misshapen}
 
 -- ---- One byte
 
@@ -49,8 +50,15 @@ run greatest value weight (b ∷ s) =
 abbrev pub read : ℕ → List ℕ → NumberRead
 read greatest s = run greatest 0 1 s
 
+-- the number and how many bytes it takes up, or why none stands there
+abbrev pub Front : Type 0
+Front = Result Number Fault
+
+abbrev pub numbered : ℕ → ℕ → Front
+numbered n k = Ok (record { value = n; size = k })
+
 -- what the code says of the front of a string of that many bytes: the number and how many of them it takes up
 unfoldable pub front_of : ℕ → NumberRead → Front
-front_of size (unfinished value weight) = front.Unfinished
-front_of size (ends number rest) = front.Number number (size - length rest)
-front_of size (malformed rest) = front.Malformed
+front_of size (unfinished value weight) = Err Unfinished
+front_of size (ends number rest) = numbered number (size - length rest)
+front_of size (malformed rest) = Err Misshapen

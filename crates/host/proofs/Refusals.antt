@@ -1,5 +1,6 @@
 -- Every entry that refuses says the number of the one definition of refusals, and the low bytes of what that carries.
 -- Assumes nothing.
+use Rattle.std.specs.Prelude.{Err}
 use mathlib.Core.Path.{◌≡◌, refl, sym, ap, ap₂, ◌∙◌}
 use mathlib.Core.Bool.{true, false}
 use mathlib.Core.List.{List, [], ◌∷◌}
@@ -23,9 +24,7 @@ use Rattle.records.specs.declared.battery.Battery.{Battery}
 use Rattle.channels.specs.Channels.{first_above, channels_image}
 use Rattle.channels.specs.declared.RcChannelsPacked.{RcChannelsPacked}
 use Rattle.channels.proofs.Laws.{image_refused, image_bytes}
-use Rattle.series.specs.Series.{Kind, series_read, new_image}
-use Rattle.series.specs.declared.Series.{Series}
-use Rattle.series.specs.declared.Series.TheVariants as series
+use Rattle.series.specs.Series.{Kind, Read, series_read, new_image}
 use Rattle.series.proofs.ReadLaws.{read_too_short}
 use Rattle.series.proofs.WriteLaws.{new_image_lem}
 use Rattle.stream.specs.declared.step.Reply.TheVariants.{Refused}
@@ -94,9 +93,9 @@ module _ (r : Refusal) where
   unfolding gives_channels
   channels_refuse read out = beside _ out
 
-  pub series_refuses : {A : Type 0} (k : Kind A) (payload : List ℕ) (out : List A) → (series_read k payload out).0 ≡ series.Refused r
+  pub series_refuses : {A : Type 0} (k : Kind A) (payload : List ℕ) (out : List A) → (series_read k payload out).0 ≡ Err r
       → unpacked 8 (gives_series (series_read k payload out)).0 ≡ refusal_bytes 0 r
-  series_refuses k payload out e = ap (λ (s : Series). unpacked 8 (packed (answer_series s))) e ∙ row_bytes r (sym (ap packed (row_refusal r))) refl
+  series_refuses k payload out e = ap (λ (s : Read). unpacked 8 (packed (answer_series s))) e ∙ row_bytes r (sym (ap packed (row_refusal r))) refl
 
 -- ---- a series without a whole value is refused with 4, into any slice; and the slice stays as it was
 
@@ -106,7 +105,7 @@ pub short_refuses :
     × ((gives_series (series_read k payload out)).1 ≡ out)
 short_refuses {A} k payload out wide short =
     let said = read_too_short k payload out wide short in
-    (series_refuses InvalidPayloadLength k payload out (ap (λ (x : Series × List A). x.0) said), ap (λ (x : Series × List A). x.1) said)
+    (series_refuses InvalidPayloadLength k payload out (ap (λ (x : Read × List A). x.0) said), ap (λ (x : Read × List A). x.1) said)
 
 -- ---- the order in which a writer refuses: the address, the record, the room; the buffer stays as it was
 

@@ -1,5 +1,6 @@
 -- A raw channel in microseconds and the raw view, as a host is answered: what the code's parts say, and what the answers mean.
 -- Assumes nothing.
+use Rattle.std.specs.Prelude.{Ok, Err}
 use mathlib.Core.Path.{◌≡◌, refl, sym, ap, ◌∙◌}
 use mathlib.Core.Bool.{not}
 use mathlib.Core.List.{List, [], ◌∷◌, ◌++◌}
@@ -15,12 +16,10 @@ use Rattle.refusals.specs.Row.{row_of}
 use Rattle.refusals.specs.declared.Refusal.{Refusal}
 use Rattle.refusals.specs.declared.Refusal.TheVariants.{InvalidPayloadLength, ChannelRange}
 use Rattle.micros.specs.Micros.{exact_row, microseconds_row, EightTimes, eighths, greatest, Answers}
-use Rattle.micros.specs.declared.Microseconds.{Microseconds}
-use Rattle.micros.specs.declared.Microseconds.TheVariants as micros
+use Rattle.micros.specs.Micros.{Microseconds}
 use Rattle.micros.proofs.Unique.{one_row}
 use Rattle.view.specs.View.{raw_row, raw_of, payload_of}
 use Rattle.view.specs.declared.RawView.{RawView}
-use Rattle.view.specs.declared.RawView.TheVariants as view
 use Rattle.view.proofs.Raw.{shown_whole}
 use Rattle.host_answer.specs.declared.answer.HostAnswer.{HostAnswer}
 use Rattle.host_answer.specs.Answer.{lowest_first, packed, answer_count, answer_refusal}
@@ -45,7 +44,7 @@ no_nan_bits nan h = absurd (omega arith)
 no_nan_bits (inf s) h = tt
 no_nan_bits (fin s m e) h = tt
 
-no_nan : (x : ℕ) (f : Float) → Answers x (microseconds_row (micros.Exact f)) → T (not (is_nan f))
+no_nan : (x : ℕ) (f : Float) → Answers x (microseconds_row (Ok f)) → T (not (is_nan f))
 unfolding microseconds_row
 no_nan x f (inl p) =
     let same : to_bits binary32 f ≡ p.bits = ap (λ (row : List ℕ). get_or row 1 0) p.said in
@@ -56,14 +55,14 @@ no_nan x f (inr p) = absurd (zero_six (ap (λ (row : List ℕ). get_or row 0 0) 
     zero_six e = omega arith
 
 module _ (x : ℕ) (out : List ℕ) {m : Microseconds} (answers : Answers x (microseconds_row m)) where
-  pub bits_there : {f : Float} → m ≡ micros.Exact f → T (not (is_nan f))
+  pub bits_there : {f : Float} → m ≡ Ok f → T (not (is_nan f))
   bits_there {f} known = no_nan x f (rw known at answers)
 
-  pub bits_given : {f : Float} {gave : ℕ × List ℕ} → m ≡ micros.Exact f → gave ≡ given_all (to_bits binary32 f ∷ []) out → GivesMicroseconds x out gave
+  pub bits_given : {f : Float} {gave : ℕ × List ℕ} → m ≡ Ok f → gave ≡ given_all (to_bits binary32 f ∷ []) out → GivesMicroseconds x out gave
   unfolding microseconds_row
   bits_given {f} known gave = record { row = exact_row (to_bits binary32 f); exact = rw known at answers; gives = gave }
 
-  pub bits_refused : {n : ℕ} (r : Refusal) → m ≡ micros.Refused r → n ≡ packed (answer_refusal r) → GivesMicroseconds x out (n, out)
+  pub bits_refused : {n : ℕ} (r : Refusal) → m ≡ Err r → n ≡ packed (answer_refusal r) → GivesMicroseconds x out (n, out)
   unfolding microseconds_row
   bits_refused r known refuses = record { row = row_of r; exact = rw known at answers; gives = rw (refuses, not_success r, row_refusal r) }
 
@@ -95,14 +94,14 @@ above_is x out above g =
 
 -- ---- The raw view
 
-module _ (s : List ℕ) {v : RawView} (shows : raw_row v ≡ raw_of s) where
-  pub raw_shown : {a k c : ℕ} → v ≡ view.View a k c → raw_bytes a k c ≡ answer_raw (raw_of s)
+module _ (s : List ℕ) where
+  pub raw_shown : (v : RawView) → raw_row (Ok v) ≡ raw_of s → raw_bytes v.address v.kind v.check ≡ answer_raw (raw_of s)
   unfolding raw_row answer_raw
-  raw_shown known = ap answer_raw (ap raw_row (sym known) ∙ shows)
+  raw_shown v shows = ap answer_raw shows
 
-  pub raw_refused : {n : ℕ} (r : Refusal) → v ≡ view.Refused r → n ≡ packed (answer_refusal r) → n ≡ answer_raw (raw_of s)
+  pub raw_refused : {n : ℕ} (r : Refusal) → raw_row (Err r) ≡ raw_of s → n ≡ packed (answer_refusal r) → n ≡ answer_raw (raw_of s)
   unfolding raw_row answer_raw
-  raw_refused r known refuses = refuses ∙ rw (← shows, known, not_success r, row_refusal r)
+  raw_refused r shows refuses = refuses ∙ rw (← shows, not_success r, row_refusal r)
 
 -- ---- An entry that refuses says the refusal's number and what it carries
 

@@ -12,7 +12,8 @@ use Rattle.refusals.specs.declared.Refusal.{Refusal}
 use Rattle.refusals.specs.declared.Refusal.TheVariants.{InvalidPayloadLength}
 use Rattle.writing.specs.Writing.{Image, bytes, refused, written_row, write_of}
 use Rattle.channels.specs.Channels.{channels_count, channels_image}
-use Rattle.frames.specs.Frames.{framed_body, framed, Small}
+use Rattle.layout.specs.Packet.{Small}
+use Rattle.frames.specs.Frames.{framed_body, framed}
 use Rattle.frames.proofs.Built.{frame_size_lem}
 use Rattle.bursts.specs.Burst.{values_image}
 use Rattle.bursts.proofs.Laws.{values_of, burst_long}

@@ -1,13 +1,12 @@
 -- Writers of whole frames for a host (RULES 14): the record that an entry makes of its numbers, what the entry answers, and the buffer afterwards.
 -- Assumes nothing.
-use Rattle.std.specs.Prelude.{ℕ, List, eqb, ℤ, length}
+use Rattle.std.specs.Prelude.{ℕ, List, eqb, ℤ, length, Err}
 use Rattle.base.specs.Choice.{when◌then◌else◌}
 use Rattle.packets.specs.Listed.{listed}
 use Rattle.refusals.specs.declared.Refusal.{Refusal}
 use Rattle.refusals.specs.declared.Refusal.TheVariants.{InvalidPayloadLength, BadAddress}
 use Rattle.writing.specs.Writing.{Image, refused, write_of}
-use Rattle.writing.specs.declared.Written.{Written}
-use Rattle.writing.specs.declared.Written.TheVariants.{Refused}
+use Rattle.writing.specs.Writing.{Written}
 use Rattle.positions.specs.declared.gps.Gps.{Gps}
 use Rattle.positions.specs.declared.gps_extended.GpsExtended.{GpsExtended}
 use Rattle.records.specs.declared.link_statistics.LinkStatistics.{LinkStatistics}
@@ -88,4 +87,4 @@ sixteen_image cs = when eqb (length cs) channels_count then channels_image (reco
 
 -- where there is no record, a bad address is refused first
 abbrev pub refused_for : ℕ → Refusal → Written
-refused_for dest r = when listed dest then Refused r else Refused BadAddress
+refused_for dest r = when listed dest then Err r else Err BadAddress

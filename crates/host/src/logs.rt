@@ -6,7 +6,7 @@ ghost use Rattle.host_answer.specs.Answer.{answers};
 ghost use Rattle.host_log.specs.Calls.{reset_state};
 ghost use Rattle.host_log.specs.Answer.{Calls, EndCalls};
 
-use host_answer::written::answer_written;
+use host_answer::answer::answer_result;
 use host_log::answer::{answer_ending, answer_log, give_seconds};
 
 // One call: up to the next entry, a refusal, or the end of the piece. An entry's seconds go to the number that is lent for them.
@@ -41,7 +41,7 @@ pub extern "C" fn crsf_log_reset(state: &mut [u8]) -> u64
 pub extern "C" fn crsf_log_start(out: &mut [u8]) -> u64
     ensures { (result, out.new) ≡ answers (write_of start_image out.old) }
 {
-    answer_written(log_writer::put_start(out))
+    answer_result(log_writer::put_start(out))
 }
 
 // One entry of a log, at the front of `out`.
@@ -49,5 +49,5 @@ pub extern "C" fn crsf_log_start(out: &mut [u8]) -> u64
 pub extern "C" fn crsf_log_entry(seconds: u32, frame: &[u8], out: &mut [u8]) -> u64
     ensures { (result, out.new) ≡ answers (write_of (entry_image seconds frame.now) out.old) }
 {
-    answer_written(log_writer::put_entry(seconds, frame, out))
+    answer_result(log_writer::put_entry(seconds, frame, out))
 }

@@ -16,12 +16,12 @@ pub extern "C" fn crsf_is_address(byte: u8) -> bool
 }
 
 // 0 unlisted, 1 short, 2 extended.
+#[tactic(auto, unfolding(crate::specs::Query::header_number))]
 #[unsafe(no_mangle)]
 pub extern "C" fn crsf_header_of(packet_type: u8) -> u8
     ensures { result ≡ header_number (header_of packet_type) }
 {
-    let header = packets::header_of(packet_type);
-    match header {
+    match packets::header_of(packet_type) {
         Header::Unlisted => 0,
         Header::Short => 1,
         Header::Extended => 2,
@@ -49,8 +49,7 @@ pub extern "C" fn crsf_pack_altitude(decimetres: i32) -> u16
 pub extern "C" fn crsf_baro_decimetres(packed: u16) -> i32
     ensures { result ≡ decimetres_of packed }
 {
-    let altitude = altitude::baro_altitude(packed);
-    altitude.0
+    altitude::baro_altitude(packed).0
 }
 
 // What a GPS record carries, in metres.
@@ -58,6 +57,5 @@ pub extern "C" fn crsf_baro_decimetres(packed: u16) -> i32
 pub extern "C" fn crsf_gps_metres(raw: u16) -> i32
     ensures { result ≡ metres_of raw }
 {
-    let altitude = altitude::gps_altitude(raw);
-    altitude.0
+    altitude::gps_altitude(raw).0
 }

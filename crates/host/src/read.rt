@@ -19,20 +19,19 @@ use host_records::{
     give_baro_altitude, give_battery, give_channels, give_gps, give_gps_extended,
     give_link_statistics, give_rpm, give_temp, give_voltages,
 };
-use layout::ReadAnswer;
-use positions::gps::{Gps, GpsRead};
-use positions::gps_extended::{GpsExtended, GpsExtendedRead};
-use records::baro_altitude::{BaroAltitude, BaroAltitudeRead};
-use records::link_statistics::{LinkStatistics, LinkStatisticsRead};
+use layout::CrsfPacket;
+use positions::gps::Gps;
+use positions::gps_extended::GpsExtended;
+use records::baro_altitude::BaroAltitude;
+use records::link_statistics::LinkStatistics;
 
 #[unsafe(no_mangle)]
 pub extern "C" fn crsf_read_link_statistics(payload: &[u8], out: &mut [i32]) -> u64
     ensures { (result, out.new) ≡ gives (link_statistics_read payload.now) out.old }
 {
-    let read = LinkStatistics::from_bytes(payload);
-    match read {
-        LinkStatisticsRead::Record(x) => give_link_statistics(x, out),
-        LinkStatisticsRead::Refused(refusal) => refuse(refusal),
+    match LinkStatistics::from_bytes(payload) {
+        Ok(x) => give_link_statistics(x, out),
+        Err(refusal) => refuse(refusal),
     }
 }
 
@@ -40,10 +39,9 @@ pub extern "C" fn crsf_read_link_statistics(payload: &[u8], out: &mut [i32]) -> 
 pub extern "C" fn crsf_read_gps(payload: &[u8], out: &mut [i32]) -> u64
     ensures { (result, out.new) ≡ gives (gps_read payload.now) out.old }
 {
-    let read = Gps::from_bytes(payload);
-    match read {
-        GpsRead::Record(x) => give_gps(x, out),
-        GpsRead::Refused(refusal) => refuse(refusal),
+    match Gps::from_bytes(payload) {
+        Ok(x) => give_gps(x, out),
+        Err(short) => refuse(short),
     }
 }
 
@@ -51,10 +49,9 @@ pub extern "C" fn crsf_read_gps(payload: &[u8], out: &mut [i32]) -> u64
 pub extern "C" fn crsf_read_gps_extended(payload: &[u8], out: &mut [i32]) -> u64
     ensures { (result, out.new) ≡ gives (gps_extended_read payload.now) out.old }
 {
-    let read = GpsExtended::from_bytes(payload);
-    match read {
-        GpsExtendedRead::Record(x) => give_gps_extended(x, out),
-        GpsExtendedRead::Refused(refusal) => refuse(refusal),
+    match GpsExtended::from_bytes(payload) {
+        Ok(x) => give_gps_extended(x, out),
+        Err(refusal) => refuse(refusal),
     }
 }
 
@@ -69,10 +66,9 @@ pub extern "C" fn crsf_read_battery(payload: &[u8], out: &mut [i32]) -> u64
 pub extern "C" fn crsf_read_baro_altitude(payload: &[u8], out: &mut [i32]) -> u64
     ensures { (result, out.new) ≡ gives (baro_altitude_read payload.now) out.old }
 {
-    let read = BaroAltitude::from_bytes(payload);
-    match read {
-        BaroAltitudeRead::Record(x) => give_baro_altitude(x, out),
-        BaroAltitudeRead::Refused(refusal) => refuse(refusal),
+    match BaroAltitude::from_bytes(payload) {
+        Ok(x) => give_baro_altitude(x, out),
+        Err(refusal) => refuse(refusal),
     }
 }
 
@@ -80,12 +76,9 @@ pub extern "C" fn crsf_read_baro_altitude(payload: &[u8], out: &mut [i32]) -> u6
 pub extern "C" fn crsf_read_rc_channels_packed(payload: &[u8], out: &mut [u16]) -> u64
     ensures { (result, out.new) ≡ gives_channels (channels_read payload.now) out.old }
 {
-    let read = RcChannelsPacked::from_bytes(payload);
-    let answer = read.answer;
-    let channels = read.channels;
-    match answer {
-        ReadAnswer::Record => give_channels(channels, out),
-        ReadAnswer::Refused(refusal) => refuse(refusal),
+    match RcChannelsPacked::from_bytes(payload) {
+        Ok(channels) => give_channels(channels, out),
+        Err(refusal) => refuse(refusal),
     }
 }
 

@@ -5,18 +5,16 @@ ghost use Rattle.host_records.specs.Read.{given_all};
 ghost use Rattle.host.specs.Views.{raw_bytes, answer_raw, GivesMicroseconds};
 
 use host_answer::answer::{count, refuse};
-use micros::Microseconds;
 use refusals::Refusal;
-use view::RawView;
 
 // One number, at the front of the slice.
 fn give_one(bits: u32, out: &mut [u32]) -> u64
     ensures { (result, out.new) ≡ given_all (bits ∷ []) out.old }
 {
-    if out.len() < 1 {
+    let Some(first) = out.first_mut() else {
         return refuse(Refusal::BufferOverflow);
-    }
-    out[0] = bits;
+    };
+    *first = bits;
     count(1)
 }
 
@@ -25,21 +23,18 @@ fn give_one(bits: u32, out: &mut [u32]) -> u64
 pub extern "C" fn crsf_channel_microseconds(raw: u16, out: &mut [u32]) -> u64
     ensures { GivesMicroseconds raw out.old (result, out.new) }
 {
-    let microseconds = micros::to_microseconds(raw);
-    match microseconds {
-        Microseconds::Exact(us) => {
-            let bits = f32::to_bits(us);
-            give_one(bits, out)
-        }
-        Microseconds::Refused(refusal) => refuse(refusal),
+    match micros::to_microseconds(raw) {
+        Ok(us) => give_one(f32::to_bits(us), out),
+        Err(refusal) => refuse(refusal),
     }
 }
 
 // Number 0, address, type and check byte, lowest first.
+#[tactic(auto, unfolding(host_answer::specs::Answer::lowest_first))]
 fn raw_bytes(address: u8, kind: u8, check: u8) -> u64
     ensures { result ≡ raw_bytes address kind check }
 {
-    256 * (address as u64 + 256 * (kind as u64 + 256 * (check as u64)))
+    256 * (u64::from(address) + 256 * (u64::from(kind) + 256 * u64::from(check)))
 }
 
 // What any four bytes or more show as a frame. Fewer are refused.
@@ -47,13 +42,8 @@ fn raw_bytes(address: u8, kind: u8, check: u8) -> u64
 pub extern "C" fn crsf_raw_view(bytes: &[u8]) -> u64
     ensures { result ≡ answer_raw (raw_of bytes.now) }
 {
-    let shown = view::raw_view(bytes);
-    match shown {
-        RawView::View {
-            address,
-            kind,
-            check,
-        } => raw_bytes(address, kind, check),
-        RawView::Refused(refusal) => refuse(refusal),
+    match view::raw_view(bytes) {
+        Ok(view) => raw_bytes(view.address, view.kind, view.check),
+        Err(refusal) => refuse(refusal),
     }
 }

@@ -17,8 +17,10 @@ ghost use Rattle.host_answer.specs.Answer.{answers};
 ghost use Rattle.host.specs.Write.{link_statistics_from, gps_from, gps_extended_from, battery_from, baro_altitude_from};
 ghost use Rattle.host.specs.Write.{writes, refused_for, sixteen_image};
 
+use base::copy_in;
 use channels::RcChannelsPacked;
-use host_answer::written::answer_written;
+use frames::{write_packet_to_buffer, write_values_to_buffer};
+use host_answer::answer::answer_result;
 use packets::is_address;
 use positions::gps::Gps;
 use positions::gps_extended::GpsExtended;
@@ -26,7 +28,9 @@ use records::baro_altitude::BaroAltitude;
 use records::battery::Battery;
 use records::link_statistics::LinkStatistics;
 use refusals::Refusal;
-use writing::Written;
+use series::rpm::Rpm;
+use series::temp::Temp;
+use series::voltages::Voltages;
 
 #[unsafe(no_mangle)]
 pub extern "C" fn crsf_write_link_statistics(
@@ -47,7 +51,7 @@ pub extern "C" fn crsf_write_link_statistics(
         (link_statistics_from uplink_rssi_1 uplink_rssi_2 uplink_link_quality uplink_snr active_antenna rf_mode
         uplink_tx_power downlink_rssi downlink_link_quality downlink_snr)) buffer.old }
 {
-    answer_written(frames::write_link_statistics(
+    answer_result(write_packet_to_buffer(
         buffer,
         dest,
         LinkStatistics {
@@ -79,7 +83,7 @@ pub extern "C" fn crsf_write_gps(
     ensures { (result, buffer.new) ≡ writes dest gps_type (gps_image
         (gps_from latitude longitude groundspeed heading altitude satellites)) buffer.old }
 {
-    answer_written(frames::write_gps(
+    answer_result(write_packet_to_buffer(
         buffer,
         dest,
         Gps {
@@ -114,7 +118,7 @@ pub extern "C" fn crsf_write_gps_extended(
         (gps_extended_from fix_type n_speed e_speed v_speed h_speed_acc track_acc alt_ellipsoid h_acc v_acc
         reserved h_dop v_dop)) buffer.old }
 {
-    answer_written(frames::write_gps_extended(
+    answer_result(write_packet_to_buffer(
         buffer,
         dest,
         GpsExtended {
@@ -147,7 +151,7 @@ pub extern "C" fn crsf_write_battery(
     ensures { (result, buffer.new) ≡ writes dest battery_type (battery_image
         (battery_from voltage current capacity_used remaining id)) buffer.old }
 {
-    answer_written(frames::write_battery(
+    answer_result(write_packet_to_buffer(
         buffer,
         dest,
         Battery {
@@ -170,7 +174,7 @@ pub extern "C" fn crsf_write_baro_altitude(
     ensures { (result, buffer.new) ≡ writes dest baro_altitude_type (baro_altitude_image
         (baro_altitude_from altitude_packed vertical_speed_packed)) buffer.old }
 {
-    answer_written(frames::write_baro_altitude(
+    answer_result(write_packet_to_buffer(
         buffer,
         dest,
         BaroAltitude {
@@ -187,20 +191,18 @@ fn sixteen(channels: &[u16]) -> RcChannelsPacked
     ensures { result ≡ record { 0 = channels.now } }
 {
     let mut all = [0u16; CHANNELS];
-    for i in 0..CHANNELS {
-        all[i] = channels[i];
-    }
+    copy_in(&mut all, 0, channels, CHANNELS);
     RcChannelsPacked(all)
 }
 
 // The answer where there is no record to write: the address is tested first all the same.
-fn no_record(dest: u8, refusal: Refusal) -> Written
+fn no_record(dest: u8, refusal: Refusal) -> Result<usize, Refusal>
     ensures { result ≡ refused_for dest refusal }
 {
     if !is_address(dest) {
-        return Written::Refused(Refusal::BadAddress);
+        return Err(Refusal::BadAddress);
     }
-    Written::Refused(refusal)
+    Err(refusal)
 }
 
 // Any other count of channels is refused.
@@ -213,9 +215,9 @@ pub extern "C" fn crsf_write_rc_channels_packed(
     ensures { (result, buffer.new) ≡ writes dest channels_type (sixteen_image channels.now) buffer.old }
 {
     if channels.len() != CHANNELS {
-        return answer_written(no_record(dest, Refusal::InvalidPayloadLength));
+        return answer_result(no_record(dest, Refusal::InvalidPayloadLength));
     }
-    answer_written(frames::write_rc_channels_packed(buffer, dest, sixteen(channels)))
+    answer_result(write_packet_to_buffer(buffer, dest, sixteen(channels)))
 }
 
 // A burst: the frames of `count` sets of sixteen channels, which stand in one slice. More than eight sets are refused, and fewer numbers than theirs.
@@ -228,7 +230,7 @@ pub extern "C" fn crsf_write_rc_channels_burst(
 ) -> u64
     ensures { (result, buffer.new) ≡ answers (write_of (values_image dest channels.now count) buffer.old) }
 {
-    answer_written(bursts::write_rc_channels_burst_values(buffer, dest, channels, count))
+    answer_result(bursts::write_rc_channels_burst_values(buffer, dest, channels, count))
 }
 
 // No value, and more than 19, are refused.
@@ -242,7 +244,7 @@ pub extern "C" fn crsf_write_rpm(
     ensures { (result, buffer.new) ≡ writes dest rpm_type
         (new_image rpm_kind rpm_source_id rpm_values.now) buffer.old }
 {
-    answer_written(frames::write_rpm_values(buffer, dest, rpm_source_id, rpm_values))
+    answer_result(write_values_to_buffer::<Rpm>(buffer, dest, rpm_source_id, rpm_values))
 }
 
 // No value, and more than 20, are refused.
@@ -256,7 +258,7 @@ pub extern "C" fn crsf_write_temp(
     ensures { (result, buffer.new) ≡ writes dest temp_type
         (new_image temp_kind temp_source_id temperatures.now) buffer.old }
 {
-    answer_written(frames::write_temp_values(buffer, dest, temp_source_id, temperatures))
+    answer_result(write_values_to_buffer::<Temp>(buffer, dest, temp_source_id, temperatures))
 }
 
 // No value, and more than 29, are refused.
@@ -270,5 +272,10 @@ pub extern "C" fn crsf_write_voltages(
     ensures { (result, buffer.new) ≡ writes dest voltages_type
         (new_image voltages_kind voltage_source_id voltage_values.now) buffer.old }
 {
-    answer_written(frames::write_voltages_values(buffer, dest, voltage_source_id, voltage_values))
+    answer_result(write_values_to_buffer::<Voltages>(
+        buffer,
+        dest,
+        voltage_source_id,
+        voltage_values,
+    ))
 }

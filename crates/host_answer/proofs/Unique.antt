@@ -14,8 +14,7 @@ use Rattle.host_answer.proofs.answer.count.Reads as count
 use Rattle.host_answer.proofs.answer.refuse.Reads as refuse
 use Rattle.host_answer.proofs.reply.answer_call.Reads as answer_call_lem
 use Rattle.host_answer.proofs.call.call.Reads as call
-use Rattle.host_answer.proofs.written.answer_written.Reads as answer-written
-use Rattle.host_answer.proofs.restored.answer_restored.Reads as answer-restored
+use Rattle.host_answer.proofs.answer.answer_result.Reads as answer-result
 
 pub pack_one : OneAnswer {Seen = ℕ} pack.Post (λ κs r s. r)
 pack_one κs a r r' s s' = same
@@ -38,11 +37,12 @@ refuse_one κs a r r' s s' = same
 pub answer_call_one : OneAnswer {Seen = Told} answer_call_lem.Post (λ κs r s. r)
 answer_call_one κs a r r' s s' = same
 
-pub answer_written_one : OneAnswer {Seen = ℕ} answer-written.Post (λ κs r s. r)
-answer_written_one κs a r r' s s' = same
+-- by what a writer says, and by what a restore says
+pub answer_written_one : OneAnswer {Seen = ℕ} answer-result.Post (λ κs r s. r)
+answer_written_one κs a r r' s s' p q = same p.0 q.0
 
-pub answer_restored_one : OneAnswer {Seen = ℕ} answer-restored.Post (λ κs r s. r)
-answer_restored_one κs a r r' s s' = same
+pub answer_restored_one : OneAnswer {Seen = ℕ} answer-result.Post (λ κs r s. r)
+answer_restored_one κs a r r' s s' p q = same p.1 q.1
 
 -- of a call of the stream: the eight bytes but for a frame's offset in the state, what is held and where it stands, of a refused state all, and the slice
 pub call_one : OneAnswer {Seen = SeenCall} call.Post (λ κs r s. seen_call r s.0.now s.1.1.0.now)

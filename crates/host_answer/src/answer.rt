@@ -1,7 +1,9 @@
 // What every entry for a host answers: eight bytes, and these as one number.
 ghost use Rattle.std.specs.Prelude.{◌≡◌, ◌+◌, ◌*◌, ◌^◌, ◌%◌, ◌<◌};
 ghost use Rattle.refusals.specs.Row.{row_of};
-ghost use Rattle.host_answer.specs.Answer.{packed, answer_number, answer_place, answer_count, answer_carried, answer_refusal};
+ghost use Rattle.writing.specs.Writing.{written_row};
+ghost use Rattle.saved.specs.Save.{restored_row};
+ghost use Rattle.host_answer.specs.Answer.{packed, answer_row, in_bytes, answer_number, answer_place, answer_count, answer_carried, answer_refusal};
 
 use base::narrow;
 use refusals::{Refusal, row_of};
@@ -35,6 +37,7 @@ fn below(low: u8, rest: u64) -> u64
 }
 
 // The eight bytes as one number, lowest first.
+#[tactic(auto, unfolding(crate::specs::Answer::lowest_first))]
 pub fn pack(t: HostAnswer) -> u64
     ensures { result ≡ packed t }
 {
@@ -100,4 +103,16 @@ pub fn refuse(refusal: Refusal) -> u64
     ensures { result ≡ packed (answer_refusal refusal) }
 {
     pack(carried(refusal, 0))
+}
+
+// How many bytes were written, or are held now, or why none are: what a writer, a save, a restore, a reset and the count of held bytes say.
+#[tactic(auto, using(crate::proofs::Rows::refusal_row), unfolding(writing::specs::Writing::written_row, saved::specs::Save::restored_row, crate::specs::Answer::answer_row))]
+pub fn answer_result(said: Result<usize, Refusal>) -> u64
+    ensures written { result ≡ packed (in_bytes (answer_row (written_row said))) }
+    ensures restored { result ≡ packed (in_bytes (answer_row (restored_row said))) }
+{
+    match said {
+        Ok(n) => count(n),
+        Err(refusal) => refuse(refusal),
+    }
 }

@@ -13,8 +13,8 @@ use refusals::Refusal;
 fn tell(began: u64, out: &mut [u64])
     ensures { out.new ≡ placed out.old 0 (began ∷ []) }
 {
-    if 0 < out.len() {
-        out[0] = began;
+    if let Some(first) = out.first_mut() {
+        *first = began;
     }
 }
 

@@ -4,5 +4,3 @@
 pub mod answer;
 pub mod call;
 pub mod reply;
-pub mod restored;
-pub mod written;

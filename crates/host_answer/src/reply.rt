@@ -14,25 +14,23 @@ pub struct Told {
     pub dropped: usize,
 }
 
+#[tactic(auto, unfolding(crate::specs::Reply::answer_reply, crate::specs::Reply::dropped_in))]
 pub fn answer_call(replied: Replied) -> Told
     ensures { result ≡ told_by replied }
 {
-    let reply = replied.reply;
     let taken = narrow(replied.taken);
-    match reply {
+    match replied.reply {
         Reply::More => Told {
             answer: pack(said(MORE, taken, 0, 0)),
             dropped: 0,
         },
-        Reply::Frame(place) => match place {
-            Place::InPiece(len) => Told {
-                answer: pack(placed(taken, 0, 0, narrow(len))),
-                dropped: len,
-            },
-            Place::InHeld { at, len } => Told {
-                answer: pack(placed(taken, 1, narrow(at % 256 + PLACES), narrow(len))),
-                dropped: len,
-            },
+        Reply::Frame(Place::InPiece(len)) => Told {
+            answer: pack(placed(taken, 0, 0, narrow(len))),
+            dropped: len,
+        },
+        Reply::Frame(Place::InHeld { at, len }) => Told {
+            answer: pack(placed(taken, 1, narrow(at % 256 + PLACES), narrow(len))),
+            dropped: len,
         },
         Reply::Refused(refusal) => Told {
             answer: pack(carried(refusal, taken)),

@@ -1,20 +1,18 @@
 -- What stands in a state is read again: the reader whose head was written.
 -- Assumes nothing.
 use mathlib.Core.Path.{◌≡◌, refl, sym, ap, ap₂, ◌∙◌}
-use mathlib.Core.Bool.{true, false, and-eq-true_iff}
-use mathlib.Core.List.{List, [], ◌∷◌, ◌++◌}
-use Prim.Native.Nat.{ℕ, ◌+◌, ◌%◌, ◌≤◌, ◌<◌}
+use mathlib.Core.Bool.{true, and-eq-true_iff}
+use mathlib.Core.List.{List}
+use Prim.Native.Nat.{ℕ, ◌+◌, ◌≤◌, ◌<◌}
 use native.Mathlib.Nat.{mod-eq_of_lt}
 use native.Mathlib.Omega.{arith}
-use borrow.Author.Tests.{eqb-true, le-leb, eq-eqb}
+use borrow.Author.Tests.{eqb-true, eq-eqb}
 use lib.Dec.{eqb, leb}
-use lib.ListN.{length, take, drop, length-append}
+use lib.ListN.{length, take, length-append}
 use lib.Seq.{take_at}
-use Rattle.base.specs.Choice.{when◌then◌else◌}
 use Rattle.base.proofs.Tests.{by_test}
-use Rattle.refusals.specs.Row.{row_of, number_of}
+use Rattle.refusals.specs.Row.{number_of}
 use Rattle.refusals.specs.declared.Refusal.{Refusal}
-use Rattle.refusals.specs.declared.Refusal.TheVariants.{InvalidLog, InvalidFrame}
 use Rattle.numbers.specs.BigEndian as be
 use Rattle.reading.specs.Reading.{limit}
 use Rattle.kit_log.specs.Entry.{greatest}
@@ -28,11 +26,10 @@ use Rattle.log_reader.specs.declared.Wanted.TheVariants.{Version, Seconds, Size}
 use Rattle.log_reader.specs.declared.Reader.{Reader}
 use Rattle.log_reader.specs.declared.Reader.TheVariants.{Number, Frame, Refused, Ended}
 use Rattle.log_reader.proofs.Readers.{few_groups, below_weight, state_room, state_refused}
-use Rattle.log_reader.proofs.Reached.{nine, ten}
+use Rattle.log_reader.proofs.Readers.{nine, ten}
 use Rattle.log_reader.proofs.FrameSteps.{begun}
 use Rattle.log_reader.proofs.Turns.{number_state}
-use Rattle.host_log.specs.declared.head.Head.{Head}
-use Rattle.host_log.specs.State.{places_at, size, bytes_of, head_in, stage_of, head_of, reader_of, reader_in, places_in, state_of, has_form, is_state}
+use Rattle.host_log.specs.State.{places_at, size, bytes_of, head_in, head_of, reader_of, reader_in, places_in, state_of, has_form, is_state}
 use Rattle.host_log.proofs.Heads.{length_head, head_read}
 use Rattle.host_log.proofs.States.{places_of}
 

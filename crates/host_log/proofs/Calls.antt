@@ -1,7 +1,6 @@
 -- The promises of the host's log entries leave one answer, and one of all that is seen of the state.
 -- Assumes nothing.
-use mathlib.Core.Path.{◌≡◌, refl, sym, ap, ap₂, ◌∙◌}
-use mathlib.Core.Bool.{Bool}
+use mathlib.Core.Path.{◌≡◌, sym, ap, ◌∙◌}
 use mathlib.Core.List.{List}
 use Prim.Native.Nat.{ℕ}
 use lib.Dec.{lit<}
@@ -13,8 +12,7 @@ use Rattle.log_reader.specs.Seen.{frame_among}
 use Rattle.log_reader.specs.declared.Place.TheVariants.{InPiece, InHeld}
 use Rattle.log_reader.specs.declared.Answer.{Answer}
 use Rattle.log_reader.specs.declared.Answer.TheVariants.{More, Entry, Refused}
-use Rattle.log_reader.specs.declared.Ending.{Ending}
-use Rattle.host_log.specs.declared.Replied.{Replied}
+use Rattle.log_reader.specs.Reader.{Ending}
 use Rattle.host_log.specs.State.{places_in, is_state}
 use Rattle.host_log.specs.Calls.{ending_row}
 use Rattle.host_log.specs.Answer.{answer_of, answer_log, seconds_by, Calls, EndCalls}

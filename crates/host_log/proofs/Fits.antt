@@ -1,9 +1,9 @@
 -- Every count that the log's entries answer fits a byte.
 -- Assumes nothing.
-use mathlib.Core.Path.{◌≡◌, refl, sym, ap, ◌∙◌}
-use mathlib.Core.Bool.{true, false}
+use Rattle.std.specs.Prelude.{Ok, Err}
+use mathlib.Core.Path.{◌≡◌, ◌∙◌}
 use mathlib.Core.List.{List}
-use Prim.Native.Nat.{ℕ, ◌+◌, ◌≤◌, ◌<◌}
+use Prim.Native.Nat.{ℕ, ◌≤◌}
 use native.Mathlib.Omega.{arith}
 use lib.ListN.{length}
 use Rattle.base.proofs.Tests.{by_test}
@@ -14,8 +14,7 @@ use Rattle.log_reader.specs.Reader.{Placed}
 use Rattle.log_reader.specs.declared.Place.TheVariants.{InPiece, InHeld}
 use Rattle.log_reader.specs.declared.Answer.{Answer}
 use Rattle.log_reader.specs.declared.Answer.TheVariants.{More, Entry, Refused}
-use Rattle.log_reader.specs.declared.Ending.{Ending}
-use Rattle.log_reader.specs.declared.Ending.TheVariants as ending
+use Rattle.log_reader.specs.Reader.{Ending}
 use Rattle.log_reader.proofs.Reached.{taken_71}
 use Rattle.host_log.specs.declared.Replied.{Replied}
 use Rattle.host_log.specs.State.{is_state, places_in}
@@ -43,5 +42,5 @@ log_fits {before} {input} {after} {r} call =
 
 pub ending_fits : (e : Ending) → Fits (answer_row (ending_row e))
 unfolding ending_row
-ending_fits ending.Log = count_fits 0 (omega arith)
-ending_fits (ending.Refused r) = refusal_fits r
+ending_fits (Ok tt) = count_fits 0 (omega arith)
+ending_fits (Err r) = refusal_fits r

@@ -1,21 +1,13 @@
 -- The head of a state: five fields written one after the other are its bytes, and what is read of these is what was written.
 -- Assumes nothing.
-use mathlib.Core.Path.{◌≡◌, refl, sym, ap, ap₂, ◌∙◌}
-use mathlib.Core.Bool.{true, false}
+use mathlib.Core.Path.{◌≡◌, refl, ap, ap₂, ◌∙◌}
 use mathlib.Core.List.{List, [], ◌∷◌, ◌++◌}
-use Prim.Native.Nat.{ℕ, ◌+◌, ◌%◌, ◌^◌, ◌≤◌, ◌<◌}
+use Prim.Native.Nat.{ℕ, ◌≤◌, ◌<◌}
 use native.Mathlib.Nat.{mod-eq_of_lt}
 use native.Mathlib.Omega.{arith}
-use borrow.Author.Tests.{eq-eqb, ne_eqb}
-use lib.Dec.{eqb}
 use lib.ListN.{length, drop, set}
-use Rattle.base.specs.Choice.{when◌then◌else◌}
 use Rattle.base.specs.Parts.{placed, pasted}
 use Rattle.base.proofs.Parts.{placed_fits}
-use Rattle.base.proofs.Tests.{by_test}
-use Rattle.refusals.specs.Row.{number_of}
-use Rattle.refusals.specs.declared.Refusal.{Refusal}
-use Rattle.refusals.specs.declared.Refusal.TheVariants.{InvalidLog, InvalidFrame}
 use Rattle.numbers.specs.BigEndian as be
 use Rattle.numbers.specs.BigEndian.{be_of}
 use Rattle.numbers.proofs.BigEndian.{be_of_bytes_of}

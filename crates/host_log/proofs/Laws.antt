@@ -1,16 +1,14 @@
 -- What a host is answered about a log, spelled a second time: the eight bytes of each answer, and the lent number. Numbers that were changed in the
 -- definition and in the code together are refused here.
 -- Assumes nothing.
-use mathlib.Core.Path.{◌≡◌, refl, sym, ap, ◌∙◌}
-use mathlib.Core.Bool.{true, false}
+use Rattle.std.specs.Prelude.{Ok, Err}
+use mathlib.Core.Path.{◌≡◌, refl, ap, ◌∙◌}
+use mathlib.Core.Bool.{false}
 use mathlib.Core.List.{List, [], ◌∷◌}
 use Prim.Native.Nat.{ℕ}
 use native.Mathlib.Omega.{arith}
-use lib.Dec.{lit<}
-use lib.ListN.{get_or}
-use Rattle.refusals.specs.Row.{row_of, number_of}
 use Rattle.refusals.specs.declared.Refusal.{Refusal}
-use Rattle.refusals.specs.declared.Refusal.TheVariants.{BadState, InvalidLog, InvalidFrame}
+use Rattle.refusals.specs.declared.Refusal.TheVariants.{InvalidLog, InvalidFrame}
 use Rattle.host_answer.specs.Answer.{packed, lowest_first, answer_row}
 use Rattle.host_answer.specs.Seen.{unpacked}
 use Rattle.host_answer.proofs.Packing.{unpack}
@@ -22,7 +20,6 @@ use Rattle.log_reader.specs.Reader.{said_by}
 use Rattle.log_reader.specs.declared.Place.TheVariants.{InPiece, InHeld}
 use Rattle.log_reader.specs.declared.Answer.{Answer}
 use Rattle.log_reader.specs.declared.Answer.TheVariants.{More, Entry, Refused}
-use Rattle.log_reader.specs.declared.Ending.TheVariants as ending
 use Rattle.host_log.specs.State.{is_state}
 use Rattle.host_log.specs.Calls.{ending_row}
 use Rattle.host_log.specs.Answer.{answer_of, seconds_by, Calls, EndCalls}
@@ -78,10 +75,10 @@ seconds_kept piece p (Refused r) lent none = refl
 
 -- ---- the end
 
-pub ended_bytes : {before after : List ℕ} {r : ℕ} (c : EndCalls before after r) → c.ending ≡ ending.Log → unpacked 8 r ≡ 0 ∷ 0 ∷ 0 ∷ 0 ∷ 0 ∷ 0 ∷ 0 ∷ 0 ∷ []
+pub ended_bytes : {before after : List ℕ} {r : ℕ} (c : EndCalls before after r) → c.ending ≡ (Ok tt) → unpacked 8 r ≡ 0 ∷ 0 ∷ 0 ∷ 0 ∷ 0 ∷ 0 ∷ 0 ∷ 0 ∷ []
 unfolding ending_row answer_row unpacked lowest_first
 ended_bytes c e = ap (unpacked 8) c.packs ∙ rw e refl
 
-pub end_refuses : {before after : List ℕ} {r : ℕ} (c : EndCalls before after r) (k : Refusal) → c.ending ≡ ending.Refused k → unpacked 8 r ≡ refusal_bytes 0 k
+pub end_refuses : {before after : List ℕ} {r : ℕ} (c : EndCalls before after r) (k : Refusal) → c.ending ≡ Err k → unpacked 8 r ≡ refusal_bytes 0 k
 unfolding ending_row
 end_refuses c k e = row_bytes k c.packs (ap ending_row e)

@@ -1,21 +1,20 @@
 -- Any run of a host's log entries is a session of the reader, so whatever the cuts it gives the log's entries and comes to its end state: demand 3, for a
 -- host's logs.
 -- Assumes nothing.
-use mathlib.Core.Path.{◌≡◌, refl, sym, ap, ap₂, ◌∙◌, subst}
-use mathlib.Core.Bool.{true, false}
-use mathlib.Core.List.{List, [], ◌++◌}
+use mathlib.Core.Path.{◌≡◌, sym, ap, ◌∙◌, subst}
+use mathlib.Core.Bool.{true}
+use mathlib.Core.List.{List}
 use Prim.Native.Nat.{ℕ, ◌≤◌}
 use native.Mathlib.Omega.{arith}
 use borrow.Author.Tests.{eq-eqb}
-use lib.ListN.{length, drop}
+use lib.ListN.{length}
 use Rattle.reading.specs.Reading.{limit}
 use Rattle.kit_log.specs.Entry.{Entry, greatest}
-use Rattle.kit_log.specs.Reading.{State}
-use Rattle.kit_log.specs.Call.{Call, call, given, Faithful}
+use Rattle.kit_log.specs.Call.{Call, call, Faithful}
 use Rattle.kit_log.specs.Room.{Small}
 use Rattle.kit_log.proofs.Small.{call_small}
 use Rattle.log_reader.specs.State as reader
-use Rattle.log_reader.specs.Reader.{said_by, Runs, Nexts}
+use Rattle.log_reader.specs.Reader.{Runs, Nexts}
 use Rattle.log_reader.specs.Session as reader-session
 use Rattle.log_reader.specs.declared.Wanted.TheVariants.{Version}
 use Rattle.log_reader.specs.declared.Reader.{Reader}

@@ -1,16 +1,17 @@
 -- What the tests of a state say, and from what is said of its places to what is said of the state.
 -- Assumes nothing.
-use mathlib.Core.Path.{◌≡◌, refl, sym, ap, ap₂, ◌∙◌, subst}
-use mathlib.Core.Bool.{Bool, true, false, ◌&&◌, and-eq-true_iff}
-use mathlib.Core.List.{List, [], ◌∷◌, ◌++◌, append-nil}
-use Prim.Native.Nat.{ℕ, ◌+◌, ◌-◌, ◌≤◌}
+use Rattle.std.specs.Prelude.{Ok, Err}
+use mathlib.Core.Path.{◌≡◌, refl, sym, ap, ap₂, ◌∙◌}
+use mathlib.Core.Bool.{Bool, true, false, and-eq-true_iff}
+use mathlib.Core.List.{List, [], ◌++◌, append-nil}
+use Prim.Native.Nat.{ℕ, ◌-◌, ◌≤◌}
 use native.Mathlib.Omega.{arith}
 use borrow.Author.Tests.{eqb-true, eq-eqb, ne_eqb}
 use lib.Dec.{eqb, leb}
 use lib.ListN.{length, get_or, take, drop, take-append-drop, length-append, length-drop, drop_of_length-le}
 use lib.Seq.{take_all, length-take-le, drop_at}
 use Rattle.base.proofs.Tests.{by_test}
-use Rattle.refusals.specs.Row.{row_of, number_of}
+use Rattle.refusals.specs.Row.{number_of}
 use Rattle.refusals.specs.declared.Refusal.{Refusal}
 use Rattle.refusals.specs.declared.Refusal.TheVariants.{BadState}
 use Rattle.reading.specs.Reading.{limit}
@@ -23,11 +24,8 @@ use Rattle.log_reader.specs.declared.Reader.TheVariants.{Number}
 use Rattle.log_reader.specs.declared.Answer.{Answer}
 use Rattle.log_reader.specs.declared.Answer.TheVariants as answer
 use Rattle.log_reader.specs.declared.Answered.{Answered}
-use Rattle.log_reader.specs.declared.Ending.{Ending}
-use Rattle.log_reader.specs.declared.Ending.TheVariants as ending
 use Rattle.log_reader.specs.declared.Closed.{Closed}
 use Rattle.host_log.specs.declared.head.Head.{Head}
-use Rattle.host_log.specs.declared.Replied.{Replied}
 use Rattle.host_log.specs.State.{places_at, size, bytes_of, head_of, reader_in, places_in, state_of, has_form, is_state}
 use Rattle.log_reader.proofs.Reached.{refused_of_logs}
 use Rattle.host_log.specs.Calls.{bad_state, StateSteps, StateEnds, ending_row, reset_state}
@@ -164,17 +162,17 @@ module _ (s : List ℕ) (good : is_state s ≡ true) where
         ends = λ _. record { reader = c.reader; finishes = rw (← Lent-is, ← r-is) finishes; is = is };
       }
 
-pub end_refused : (s : List ℕ) → is_state s ≡ false → StateEnds s s (ending.Refused BadState)
+pub end_refused : (s : List ℕ) → is_state s ≡ false → StateEnds s s (Err BadState)
 end_refused s e = record { refuses = λ _. (refl, refl); ends = λ t. absurd (let z : ◌≡◌ {A = ℕ} 0 1 = cc in omega arith) }
 
 -- ---- a reset
 
-pub reset_refused : (s : List ℕ) → (length s ≡ size → ⊥) → (ending_row (ending.Refused BadState), s) ≡ reset_state s
+pub reset_refused : (s : List ℕ) → (length s ≡ size → ⊥) → (ending_row (Err BadState), s) ≡ reset_state s
 unfolding reset_state ending_row
 reset_refused s h = simp (ne_eqb (length s) size h)
 
 pub reset_done : (s after : List ℕ) {r : Reader} → length s ≡ size → r ≡ Number Version 0 0 → after ≡ bytes_of (head_of r) ++ drop places_at s
-    → (ending_row ending.Log, after) ≡ reset_state s
+    → (ending_row (Ok tt), after) ≡ reset_state s
 unfolding reset_state
 reset_done s after e r-is is =
-    ap (λ (l : List ℕ). (ending_row ending.Log, l)) (is ∙ ap (λ (x : Reader). bytes_of (head_of x) ++ drop places_at s) r-is) ∙ sym (simp (eq-eqb (length s) size e))
+    ap (λ (l : List ℕ). (ending_row (Ok tt), l)) (is ∙ ap (λ (x : Reader). bytes_of (head_of x) ++ drop places_at s) r-is) ∙ sym (simp (eq-eqb (length s) size e))

@@ -1,21 +1,19 @@
 -- Each public function's promise leaves one answer. `Post` is what the prover reads off the source's own `ensures`, so a weaker clause there breaks
 -- its line here. Assumes nothing.
+use Rattle.std.specs.Prelude.{Ok, Err}
 use mathlib.Core.Path.{◌≡◌, refl, sym, ap, ap₂, ◌∙◌}
-use mathlib.Core.Bool.{Bool, true, false}
-use mathlib.Core.List.{List, [], ◌∷◌}
+use mathlib.Core.Bool.{Bool, true}
+use mathlib.Core.List.{List, []}
 use Prim.Native.Nat.{ℕ}
 use lib.ListN.{take}
 use Rattle.base.proofs.Tests.{by_test}
 use Rattle.base.proofs.Unique.{OneAnswer, OneAnswerOver, same}
 use Rattle.refusals.proofs.Rows.{one_refusal, not_zero}
-use Rattle.log_reader.specs.State as reader
 use Rattle.log_reader.specs.Seen as reader-seen
 use Rattle.log_reader.specs.Seen.{held_by, frame_among}
 use Rattle.log_reader.specs.declared.Reader.{Reader}
-use Rattle.log_reader.specs.declared.Answer.{Answer}
 use Rattle.log_reader.specs.declared.Answered.{Answered}
-use Rattle.log_reader.specs.declared.Ending.{Ending}
-use Rattle.log_reader.specs.declared.Ending.TheVariants.{Log, Refused}
+use Rattle.log_reader.specs.Reader.{Ending}
 use Rattle.log_reader.proofs.Known.{one_reader, one_run}
 use Rattle.host_log.specs.declared.Replied.{Replied}
 use Rattle.host_log.specs.State.{places_at, bytes_of, head_of, reader_in, places_in, state_of, is_state}
@@ -95,10 +93,10 @@ end_one κs a r r' s s' = one_end _
 -- an ending is known by its row
 pub by_row : (v w : Ending) → ending_row v ≡ ending_row w → v ≡ w
 unfolding ending_row
-by_row Log Log e = refl
-by_row Log (Refused s) e = absurd (not_zero s (sym e))
-by_row (Refused r) Log e = absurd (not_zero r e)
-by_row (Refused r) (Refused s) e = ap Refused (one_refusal e)
+by_row (Ok u) (Ok v) e = refl
+by_row (Ok u) (Err s) e = absurd (not_zero s (sym e))
+by_row (Err r) (Ok u) e = absurd (not_zero r e)
+by_row (Err r) (Err s) e = ap Err (one_refusal e)
 
 pub reset_one : OneAnswer {Seen = Ending × List ℕ} reset.Post (λ κs r s. (r, s.0.now))
 reset_one κs a r r' s s' p q =

@@ -9,7 +9,7 @@ use Rattle.log_reader.specs.declared.Place.{Place}
 use Rattle.log_reader.specs.declared.Place.TheVariants.{InPiece, InHeld}
 use Rattle.log_reader.specs.declared.Answer.{Answer}
 use Rattle.log_reader.specs.declared.Answer.TheVariants.{More, Entry, Refused}
-use Rattle.log_reader.specs.declared.Ending.{Ending}
+use Rattle.log_reader.specs.Reader.{Ending}
 use Rattle.host_log.specs.State.{places_at}
 use Rattle.host_log.specs.Calls.{StateSteps, StateEnds, ending_row}
 use Rattle.host_log.specs.declared.Replied.{Replied}

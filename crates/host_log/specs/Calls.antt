@@ -1,6 +1,6 @@
 -- One call of a log's reader over the host's state, the end, and a reset (RULES 16.12).
 -- Assumes nothing.
-use Rattle.std.specs.Prelude.{◌≡◌, Bool, true, false, List, [], ◌∷◌, ℕ, eqb, length}
+use Rattle.std.specs.Prelude.{◌≡◌, Bool, true, false, List, [], ◌∷◌, ℕ, eqb, length, Ok, Err}
 use Rattle.base.specs.Choice.{when◌then◌else◌}
 use Rattle.refusals.specs.Row.{row_of, number_of}
 use Rattle.refusals.specs.declared.Refusal.TheVariants.{BadState}
@@ -10,9 +10,7 @@ use Rattle.log_reader.specs.declared.Reader.{Reader}
 use Rattle.log_reader.specs.declared.Reader.TheVariants.{Number}
 use Rattle.log_reader.specs.declared.Answer.{Answer}
 use Rattle.log_reader.specs.declared.Answer.TheVariants as answer
-use Rattle.log_reader.specs.declared.Answered.{Answered}
-use Rattle.log_reader.specs.declared.Ending.{Ending}
-use Rattle.log_reader.specs.declared.Ending.TheVariants.{Log, Refused}
+use Rattle.log_reader.specs.Reader.{Ending}
 use Rattle.host_log.specs.State.{size, reader_in, places_in, state_of, is_state}
 use Rattle.host_log.specs.declared.Replied.{Replied}
 
@@ -39,14 +37,14 @@ pub record Ends (before after : List ℕ) (r : Ending) : Type 0 where
   pub is : after ≡ state_of reader (places_in before)
 
 pub record StateEnds (before after : List ℕ) (r : Ending) : Type 0 where
-  pub refuses : is_state before ≡ false → (r ≡ Refused BadState) × (after ≡ before)
+  pub refuses : is_state before ≡ false → (r ≡ Err BadState) × (after ≡ before)
   pub ends : is_state before ≡ true → Ends before after r
 
 -- as a row: 0, or the refusal's
 unfoldable pub ending_row : Ending → List ℕ
-ending_row Log = 0 ∷ 0 ∷ []
-ending_row (Refused r) = row_of r
+ending_row (Ok tt) = 0 ∷ 0 ∷ []
+ending_row (Err r) = row_of r
 
 -- a reset looks at no byte of the state, only at how many there are: the row, and the state afterwards
 unfoldable pub reset_state : List ℕ → List ℕ × List ℕ
-reset_state state = when eqb (length state) size then (ending_row Log, state_of (Number Version 0 0) (places_in state)) else (row_of BadState, state)
+reset_state state = when eqb (length state) size then (ending_row (Ok tt), state_of (Number Version 0 0) (places_in state)) else (row_of BadState, state)

@@ -8,8 +8,10 @@ use crate::Replied;
 use crate::head::PLACES;
 use base::narrow;
 use host_answer::answer::{MORE, carried, count, pack, placed, refuse, said};
-use log_reader::{Answer, Ending, Place};
+use log_reader::{Answer, Place};
+use refusals::Refusal;
 
+#[tactic(auto, unfolding(crate::specs::Answer::answer_of))]
 pub fn answer_log(replied: Replied) -> u64
     ensures { result ≡ packed (in_bytes (answer_log replied)) }
 {
@@ -25,12 +27,12 @@ pub fn answer_log(replied: Replied) -> u64
     }
 }
 
-pub fn answer_ending(ending: Ending) -> u64
+pub fn answer_ending(ending: Result<(), Refusal>) -> u64
     ensures { result ≡ packed (answer_row (ending_row ending)) }
 {
     match ending {
-        Ending::Log => count(0),
-        Ending::Refused(refusal) => refuse(refusal),
+        Ok(()) => count(0),
+        Err(refusal) => refuse(refusal),
     }
 }
 
@@ -38,14 +40,7 @@ pub fn answer_ending(ending: Ending) -> u64
 pub fn give_seconds(answer: Answer, seconds: &mut u32)
     ensures { seconds.new ≡ seconds_by answer seconds.old }
 {
-    match answer {
-        Answer::More => {}
-        Answer::Entry {
-            seconds: those,
-            place: _,
-        } => {
-            *seconds = those;
-        }
-        Answer::Refused(_) => {}
+    if let Answer::Entry { seconds: those, .. } = answer {
+        *seconds = those;
     }
 }

@@ -2,10 +2,10 @@
 ghost use Rattle.std.specs.Prelude.{◌≡◌, ◌++◌, ◌≤◌, length, drop};
 ghost use Rattle.host_log.specs.State.{places_at, bytes_of, reader_of, stage_of, head_number, head_of, reader_in};
 
-use base::{narrow, wide};
+use base::narrow;
 use log_reader::{Reader, Wanted};
 use numbers::{get_u32, put_u32};
-use refusals::{Refusal, row_of};
+use refusals::Refusal;
 use stream::LIMIT;
 
 // Where the places stand.
@@ -13,7 +13,7 @@ pub const PLACES: usize = 11;
 
 pub const SIZE: usize = PLACES + LIMIT;
 
-// The head as numbers. What a stage does not use is 0.
+// The head as numbers, the bytes that a host keeps: so a stage is a number here, and what it does not use is 0.
 #[derive(Clone, Copy)]
 struct Head {
     // 0 in the first number, 1 in the seconds of an entry, 2 in the length of its frame, 3 in the frame; 4 ended, 5 refused with 9, 6 with 10
@@ -31,39 +31,27 @@ struct Head {
 fn number(wanted: Wanted, value: u32, groups: u8) -> Head
     ensures { result ≡ head_number wanted value groups }
 {
-    match wanted {
-        Wanted::Version => Head {
-            stage: 0,
-            count: groups,
-            size: 0,
-            value,
-            seconds: 0,
-        },
-        Wanted::Seconds => Head {
-            stage: 1,
-            count: groups,
-            size: 0,
-            value,
-            seconds: 0,
-        },
-        Wanted::Size(seconds) => Head {
-            stage: 2,
-            count: groups,
-            size: 0,
-            value,
-            seconds,
-        },
+    let (stage, seconds) = match wanted {
+        Wanted::Version => (0, 0),
+        Wanted::Seconds => (1, 0),
+        Wanted::Size(seconds) => (2, seconds),
+    };
+    Head {
+        stage,
+        count: groups,
+        size: 0,
+        value,
+        seconds,
     }
 }
 
 fn stage_of(refusal: Refusal) -> u8
     ensures { result ≡ stage_of refusal }
 {
-    let row = row_of(refusal);
-    if row.number == 9 {
-        return 5;
+    match refusal {
+        Refusal::InvalidLog => 5,
+        _ => 6,
     }
-    6
 }
 
 fn bare(stage: u8) -> Head
@@ -122,50 +110,43 @@ pub(crate) fn put_reader(state: &mut [u8], reader: Reader)
     put_head(state, head_of(reader));
 }
 
+fn begun(wanted: Wanted, value: u32, groups: u8) -> Reader
+    ensures { result ≡ Reader.Number wanted value groups }
+{
+    Reader::Number {
+        wanted,
+        value,
+        groups,
+    }
+}
+
 fn reader_of(head: Head) -> Reader
     ensures { result ≡ reader_of head }
 {
-    let value = head.value;
-    let groups = head.count;
-    let seconds = head.seconds;
-    if head.stage == 0 {
-        return Reader::Number {
-            wanted: Wanted::Version,
-            value,
-            groups,
-        };
-    }
-    if head.stage == 1 {
-        return Reader::Number {
-            wanted: Wanted::Seconds,
-            value,
-            groups,
-        };
-    }
-    if head.stage == 2 {
-        return Reader::Number {
-            wanted: Wanted::Size(seconds),
-            value,
-            groups,
-        };
-    }
-    if head.stage == 3 {
-        return Reader::Frame {
+    let Head {
+        stage,
+        count,
+        size,
+        value,
+        seconds,
+    } = head;
+    match stage {
+        0 => begun(Wanted::Version, value, count),
+        1 => begun(Wanted::Seconds, value, count),
+        2 => begun(Wanted::Size(seconds), value, count),
+        3 => Reader::Frame {
             seconds,
-            size: wide(head.size),
-            held: wide(groups),
-        };
+            size: usize::from(size),
+            held: usize::from(count),
+        },
+        4 => Reader::Ended,
+        5 => Reader::Refused(Refusal::InvalidLog),
+        _ => Reader::Refused(Refusal::InvalidFrame),
     }
-    if head.stage == 4 {
-        return Reader::Ended;
-    }
-    if head.stage == 5 {
-        return Reader::Refused(Refusal::InvalidLog);
-    }
-    Reader::Refused(Refusal::InvalidFrame)
 }
 
 // The reader that a head stands for.
+#[tactic(auto, unfolding(crate::specs::State::head_in))]
 pub(crate) fn reader_in(state: &[u8]) -> Reader
     requires { places_at ≤ length state.now }
     ensures { result ≡ reader_in state.now }

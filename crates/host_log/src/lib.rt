@@ -10,8 +10,8 @@ ghost use Rattle.host_log.specs.State.{has_form, is_state};
 ghost use Rattle.host_log.specs.Calls.{bad_state, StateSteps, StateEnds, ending_row, reset_state};
 
 use head::{PLACES, SIZE, put_reader, reader_in};
-use log_reader::{Answer, Ending};
-use refusals::{Refusal, row_of};
+use log_reader::Answer;
+use refusals::Refusal;
 
 // What a call took and says.
 #[derive(Clone, Copy)]
@@ -21,37 +21,30 @@ pub struct Replied {
 }
 
 // Whether these bytes have the size of a state, and a stage that there is.
+#[tactic(auto, unfolding(crate::specs::State::has_form))]
 fn has_form(state: &[u8]) -> bool
     ensures { result ≡ has_form state.now }
 {
-    if state.len() != SIZE {
-        return false;
-    }
-    state[0] <= 6
+    state.len() == SIZE && state[0] <= 6
 }
 
 // Whether these bytes are a state that some log leads to.
+#[tactic(auto, using(crate::proofs::States::form_size))]
 pub fn is_state(state: &[u8]) -> bool
     ensures { result ≡ is_state state.now }
 {
-    if !has_form(state) {
-        return false;
-    }
-    log_reader::is_state(&state[PLACES..], reader_in(state))
+    has_form(state) && log_reader::is_state(&state[PLACES..], reader_in(state))
 }
 
 // Whether the reader refused its state.
 fn is_bad_state(answer: Answer) -> bool
     ensures { result ≡ bad_state answer }
 {
-    match answer {
-        Answer::More => false,
-        Answer::Entry { .. } => false,
-        Answer::Refused(refusal) => row_of(refusal).number == 8,
-    }
+    matches!(answer, Answer::Refused(Refusal::BadState))
 }
 
 // One call: up to the next entry, a refusal, or the end of the piece. The reader tests the state: where it refuses that, the head stays too.
+#[tactic(auto, using(crate::proofs::States::form_size))]
 pub fn step(state: &mut [u8], input: &[u8]) -> Replied
     ensures { StateSteps state.old input.now state.new result }
 {
@@ -79,11 +72,12 @@ pub fn step(state: &mut [u8], input: &[u8]) -> Replied
 }
 
 // The log ends here.
-pub fn end(state: &mut [u8]) -> Ending
+#[tactic(auto, using(crate::proofs::States::state_size))]
+pub fn end(state: &mut [u8]) -> Result<(), Refusal>
     ensures { StateEnds state.old state.new result }
 {
     if !is_state(state) {
-        return Ending::Refused(Refusal::BadState);
+        return Err(Refusal::BadState);
     }
     let reader = reader_in(state);
     let closed = log_reader::end(&state[PLACES..], reader);
@@ -93,12 +87,13 @@ pub fn end(state: &mut [u8]) -> Ending
 }
 
 // A state before the first byte, whatever it was.
-pub fn reset(state: &mut [u8]) -> Ending
+#[tactic(auto, using(crate::proofs::States::reset_refused, crate::proofs::States::reset_done))]
+pub fn reset(state: &mut [u8]) -> Result<(), Refusal>
     ensures { (ending_row result, state.new) ≡ reset_state state.old }
 {
     if state.len() != SIZE {
-        return Ending::Refused(Refusal::BadState);
+        return Err(Refusal::BadState);
     }
     put_reader(state, log_reader::reset());
-    Ending::Log
+    Ok(())
 }

@@ -1,5 +1,6 @@
 -- What the readers for a host give: numbers copied to the front of a slice, then each record by what its reader answers.
 -- Assumes nothing.
+use Rattle.std.specs.Prelude.{Ok, Err, Result}
 use mathlib.Core.Path.{◌≡◌, refl, sym, ap, ◌∙◌}
 use mathlib.Core.List.{List, [], ◌∷◌, ◌++◌}
 use Prim.Native.Nat.{ℕ, ◌≤◌, ◌<◌}
@@ -9,17 +10,12 @@ use borrow.Author.Tests.{le-leb, lt-leb}
 use lib.Dec.{lit<}
 use lib.IntN.{ℤ}
 use lib.ListN.{length, take, drop}
-use Rattle.refusals.specs.Row.{row_of}
 use Rattle.refusals.specs.declared.Refusal.{Refusal}
 use Rattle.refusals.specs.declared.Refusal.TheVariants.{BufferOverflow}
-use Rattle.layout.specs.Decoded.{Decoded, decoded, refused, read_row}
-use Rattle.layout.specs.declared.ReadAnswer.{ReadAnswer}
-use Rattle.layout.specs.declared.ReadAnswer.TheVariants.{Record, Refused}
-use Rattle.channels.specs.Channels.{channels_read}
+use Rattle.layout.specs.Decoded.{Decoded, decoded_by, record_row, read_row, read_record}
+use Rattle.channels.specs.Channels.{no_channels, channels_read}
 use Rattle.channels.specs.declared.RcChannelsPacked.{RcChannelsPacked}
-use Rattle.series.specs.Series.{Kind, Counted, series_read, counted_read}
-use Rattle.series.specs.declared.Series.{Series}
-use Rattle.series.specs.declared.Series.TheVariants as series
+use Rattle.series.specs.Series.{Kind, Counted, Read, values_said, series_read, counted_read}
 use Rattle.series.proofs.ReadLaws.{in_values}
 use Rattle.series.proofs.SeriesLaws.{counted_long, lent_as_counted}
 use Rattle.host_answer.specs.declared.answer.HostAnswer.{HostAnswer}
@@ -44,50 +40,52 @@ all_given out {ws} gave same few = gave ∙ rw (same, mod-eq_of_lt few)
 
 -- ---- Records that stand beside their answer: what is given of a record, or what the answer refuses
 
-module _ {A R : Type 0} (whole_of : R → ℕ × List A) (out : List A) {a : ReadAnswer} {x : R} {z : List ℕ × R} (read : (read_row a, x) ≡ z) where
-  by_answer : {b : ReadAnswer} → a ≡ b → by_row (read_row b) (whole_of x) out ≡ by_row z.0 (whole_of z.1) out
+module _ {A R : Type 0} (whole_of : R → ℕ × List A) (none : R) (out : List A) {a : Result R Refusal} {z : List ℕ × R}
+    (read : (read_row a, read_record none a) ≡ z) where
+  by_answer : {b : Result R Refusal} → a ≡ b → by_row (read_row b) (whole_of (read_record none b)) out ≡ by_row z.0 (whole_of z.1) out
   by_answer e =
-      ap (λ (b : ReadAnswer). by_row (read_row b) (whole_of x) out) (sym e) ∙ ap (λ (y : List ℕ × R). by_row y.0 (whole_of y.1) out) read
+      ap (λ (b : Result R Refusal). by_row (read_row b) (whole_of (read_record none b)) out) (sym e)
+      ∙ ap (λ (y : List ℕ × R). by_row y.0 (whole_of y.1) out) read
 
-  beside_given : a ≡ Record → whole_of x ≡ by_row z.0 (whole_of z.1) out
+  beside_given : {x : R} → a ≡ Ok x → whole_of x ≡ by_row z.0 (whole_of z.1) out
   unfolding read_row
   beside_given = by_answer
 
-  beside_refused : (r : Refusal) → a ≡ Refused r → (packed (answer_refusal r), out) ≡ by_row z.0 (whole_of z.1) out
+  beside_refused : (r : Refusal) → a ≡ Err r → (packed (answer_refusal r), out) ≡ by_row z.0 (whole_of z.1) out
   unfolding read_row
   beside_refused r e = simp (not_success r, row_refusal r) at (by_answer e)
 
-module _ (payload out : List ℕ) {a : ReadAnswer} {x : RcChannelsPacked} (read : (read_row a, x) ≡ channels_read payload) where
-  pub channels_given : a ≡ Record → given_all x.0 out ≡ gives_channels (channels_read payload) out
+module _ (payload out : List ℕ) {a : Result RcChannelsPacked Refusal} (read : (read_row a, read_record no_channels a) ≡ channels_read payload) where
+  pub channels_given : {x : RcChannelsPacked} → a ≡ Ok x → given_all x.0 out ≡ gives_channels (channels_read payload) out
   unfolding gives_channels
-  channels_given = beside_given (λ (y : RcChannelsPacked). given_all y.0 out) out read
+  channels_given = beside_given (λ (y : RcChannelsPacked). given_all y.0 out) no_channels out read
 
-  pub channels_refused : (r : Refusal) → a ≡ Refused r → (packed (answer_refusal r), out) ≡ gives_channels (channels_read payload) out
+  pub channels_refused : (r : Refusal) → a ≡ Err r → (packed (answer_refusal r), out) ≡ gives_channels (channels_read payload) out
   unfolding gives_channels
-  channels_refused = beside_refused (λ (y : RcChannelsPacked). given_all y.0 out) out read
+  channels_refused = beside_refused (λ (y : RcChannelsPacked). given_all y.0 out) no_channels out read
 
 -- ---- Series
 
 -- as many values as a series may have, and so the count of those that it has, have a byte
 module _ {A : Type 0} (k : Kind A) (few : k.most < 256) (payload : List ℕ) (out : List A) where
-  fits : (s : Series) → (series_read k payload out).0 ≡ s → in_bytes (answer_series s) ≡ answer_series s
-  fits (series.Values id n) e =
-      let small : n < 256 = omega (arith, in_values k.width k.most payload (length out) e) in
+  fits : (s : Read) → (series_read k payload out).0 ≡ s → in_bytes (answer_series s) ≡ answer_series s
+  fits (Ok s) e =
+      let small : s.count < 256 = omega (arith, in_values k.width k.most payload (length out) e) in
       rw (mod-eq_of_lt small)
-  fits (series.Refused r) e = refl
+  fits (Err r) e = refl
 
-  pub series_given : {s : Series} {after : List A} {r : ℕ} → (s, after) ≡ series_read k payload out → r ≡ packed (in_bytes (answer_series s))
+  pub series_given : {s : Read} {after : List A} {r : ℕ} → (s, after) ≡ series_read k payload out → r ≡ packed (in_bytes (answer_series s))
       → (r, after) ≡ gives_series (series_read k payload out)
   series_given {s} {after} read answers =
-      ap (λ (n : ℕ). (n, after)) (answers ∙ ap packed (fits s (sym (ap (λ (x : Series × List A). x.0) read)))) ∙ ap gives_series read
+      ap (λ (n : ℕ). (n, after)) (answers ∙ ap packed (fits s (sym (ap (λ (x : Read × List A). x.0) read)))) ∙ ap gives_series read
 
 -- the eight bytes (RULES 14): of a series that is read, the fifth says how many values and the sixth is the source id
 pub series_bytes_lem :
     {A : Type 0} (k : Kind A) → k.most < 256 → (payload : List ℕ) (out : List A) {id n : ℕ} → id < 256
-    → (series_read k payload out).0 ≡ series.Values id n → unpacked 8 (gives_series (series_read k payload out)).0 ≡ 0 ∷ 0 ∷ 0 ∷ 0 ∷ n ∷ id ∷ 0 ∷ 0 ∷ []
+    → (series_read k payload out).0 ≡ values_said id n → unpacked 8 (gives_series (series_read k payload out)).0 ≡ 0 ∷ 0 ∷ 0 ∷ 0 ∷ n ∷ id ∷ 0 ∷ 0 ∷ []
 series_bytes_lem k few payload out {id} {n} byte e =
-    ap (λ (s : Series). unpacked 8 (packed (answer_series s))) e
-    ∙ unpack (answer_series (series.Values id n))
+    ap (λ (s : Read). unpacked 8 (packed (answer_series s))) e
+    ∙ unpack (answer_series (values_said id n))
     (record {
       number = lit< tt;
       taken = lit< tt;
@@ -100,19 +98,19 @@ series_bytes_lem k few payload out {id} {n} byte e =
 
 -- what a record has goes to a slice with room for it, with the count and the id beside it
 pub series_as_record :
-    {A : Type 0} (k : Kind A) (payload : List ℕ) (out : List A) (h : Counted A) → counted_read k payload ≡ (read_row Record, h) → h.count ≤ length out
-    → gives_series (series_read k payload out) ≡ given (answer_series (series.Values h.id h.count)) (take h.count h.places) out
+    {A : Type 0} (k : Kind A) (payload : List ℕ) (out : List A) (h : Counted A) → counted_read k payload ≡ (record_row, h) → h.count ≤ length out
+    → gives_series (series_read k payload out) ≡ given (answer_series (values_said h.id h.count)) (take h.count h.places) out
 series_as_record k payload out h e room =
     ap gives_series (lent_as_counted k payload h e out room)
-    ∙ given_all_lem (take h.count h.places) out (answer_series (series.Values h.id h.count)) h.count (counted_long k payload h e) room
+    ∙ given_all_lem (take h.count h.places) out (answer_series (values_said h.id h.count)) h.count (counted_long k payload h e) room
 
 -- ---- Records of fixed layouts, by what their reader decodes
 
-module _ {M : Type 0} (decodedBy : M → Decoded) (out : List ℤ) {m : M} {read : Decoded} (reads : decodedBy m ≡ read) where
-  pub fixed_given : {x : M} {ws : List ℤ} {gave : ℕ × List ℤ} → m ≡ x → decodedBy x ≡ decoded ws → gave ≡ given_all ws out → gave ≡ gives read out
-  unfolding gives
-  fixed_given known is gave = gave ∙ rw (← reads, known, is)
+module _ {R : Type 0} (values : R → List ℤ) (out : List ℤ) {read : Decoded} where
+  pub fixed_given : (x : R) {gave : ℕ × List ℤ} → decoded_by values (Ok x) ≡ read → gave ≡ given_all (values x) out → gave ≡ gives read out
+  unfolding gives decoded_by
+  fixed_given x reads gave = gave ∙ rw (← reads)
 
-  pub fixed_refused : {x : M} {n : ℕ} (r : Refusal) → m ≡ x → decodedBy x ≡ refused (row_of r) → n ≡ packed (answer_refusal r) → (n, out) ≡ gives read out
-  unfolding gives
-  fixed_refused r known is refuses = rw (refuses, ← reads, known, is, row_refusal r)
+  pub fixed_refused : (r : Refusal) {n : ℕ} → decoded_by values (Err r) ≡ read → n ≡ packed (answer_refusal r) → (n, out) ≡ gives read out
+  unfolding gives decoded_by
+  fixed_refused r reads refuses = rw (refuses, ← reads, row_refusal r)

@@ -1,3 +1,2 @@
-pub mod Wide
 pub mod Given
 pub mod Unique

@@ -1,12 +1,11 @@
 -- Readers of payloads (RULES 14): a record's numbers go to the front of a lent slice, and the answer says how many.
 -- Assumes nothing.
-use Rattle.std.specs.Prelude.{ℕ, List, ◌++◌, eqb, leb, ℤ, length, get_or, drop}
+use Rattle.std.specs.Prelude.{ℕ, List, ◌++◌, eqb, leb, ℤ, length, get_or, drop, Ok, Err}
 use Rattle.base.specs.Choice.{when◌then◌else◌}
 use Rattle.refusals.specs.declared.Refusal.TheVariants.{BufferOverflow}
 use Rattle.layout.specs.Decoded.{Decoded, decoded, refused}
 use Rattle.channels.specs.declared.RcChannelsPacked.{RcChannelsPacked}
-use Rattle.series.specs.declared.Series.{Series}
-use Rattle.series.specs.declared.Series.TheVariants.{Values, Refused}
+use Rattle.series.specs.Series.{Read}
 use Rattle.host_answer.specs.declared.answer.HostAnswer.{HostAnswer}
 use Rattle.host_answer.specs.Answer.{packed, answer_count, answer_refusal, answer_row, in_bytes}
 
@@ -36,10 +35,10 @@ unfoldable pub gives_channels : List ℕ × RcChannelsPacked → List ℕ → �
 gives_channels read out = by_row read.0 (given_all read.1.0 out) out
 
 -- how many values of a series, and the source id; or the refusal
-abbrev pub answer_series : Series → HostAnswer
-answer_series (Values id n) = record { number = 0; taken = 0; in_state = 0; at = 0; len = n; first = id; second = 0 }
-answer_series (Refused r) = answer_refusal r
+abbrev pub answer_series : Read → HostAnswer
+answer_series (Ok s) = record { number = 0; taken = 0; in_state = 0; at = 0; len = s.count; first = s.id; second = 0 }
+answer_series (Err r) = answer_refusal r
 
 -- a series that was read, and the slice with its values at the front
-abbrev pub gives_series : {A : Type 0} → Series × List A → ℕ × List A
+abbrev pub gives_series : {A : Type 0} → Read × List A → ℕ × List A
 gives_series (s, out) = (packed (answer_series s), out)

@@ -1,9 +1,10 @@
 -- What the position, a reset, a save and a restore answer and leave, from what those over the places answered and left.
 -- Assumes nothing.
+use Rattle.std.specs.Prelude.{Ok, Err}
 use mathlib.Core.Path.{◌≡◌, refl, sym, ap, ap₂, ◌∙◌}
 use mathlib.Core.Bool.{true, false}
 use mathlib.Core.List.{List, [], ◌∷◌}
-use Prim.Native.Nat.{ℕ, ◌-◌, ◌≤◌, ◌<◌, ◌%◌}
+use Prim.Native.Nat.{ℕ, ◌≤◌, ◌<◌, ◌%◌}
 use native.Mathlib.Nat.{mod-eq_of_lt}
 use native.Mathlib.Omega.{arith}
 use lib.ListN.{length, get_or, set}
@@ -14,76 +15,45 @@ use Rattle.refusals.specs.Row.{row_of}
 use Rattle.refusals.specs.declared.Refusal.{Refusal}
 use Rattle.refusals.specs.declared.Refusal.TheVariants.{BufferOverflow, BadState}
 use Rattle.refusals.proofs.Rows.{not_zero}
-use Rattle.writing.specs.declared.Written.TheVariants as written
 use Rattle.writing.specs.Writing.{bytes, written_row, write_of}
-use Rattle.writing.proofs.Writing.{writes, overflows, refuses}
+use Rattle.writing.proofs.Writing.{writes, overflows}
 use Rattle.reading.specs.Reading.{limit}
 use Rattle.numbers.specs.BigEndian.{bytes_of}
 use Rattle.saved.specs.Form as forms
 use Rattle.saved.specs.Form.{is_form, held_of}
-use Rattle.saved.specs.declared.form.Restored.TheVariants.{Held, Refused}
-use Rattle.saved.specs.Save.{save_image, held_row, restored_row, restore_of}
+use Rattle.saved.specs.Save.{held_row, restored_row, restore_of}
 use Rattle.saved.proofs.Marked.{taken_form}
-use Rattle.host_state.specs.State.{size, position_at, state_of, start_in, end_in, places_in, position_in, has_size, is_state}
-use Rattle.host_state.specs.Saving.{held_row_of, position_image, reset_state, state_image, restore_state}
+use Rattle.host_state.specs.State.{size, position_at, state_of, places_in, position_in, is_state}
+use Rattle.host_state.specs.Saving.{position_image, reset_state, restore_state}
 use Rattle.host_state.proofs.States as states
 use Rattle.host_state.proofs.States.{has_size_lem, places_count, all_written, state_written, written_same}
 
 abbrev Left : Type 0
 Left = List ℕ × List ℕ
 
--- ---- refused
+-- ---- the position
 
 module _ (s : List ℕ) where
-  pub held_refused : is_state s ≡ false → restored_row (Refused BadState) ≡ held_row_of s
-  unfolding held_row_of restored_row
-  held_refused e = simp e
-
-  pub held_counted : {n : ℕ} → is_state s ≡ true → n ≡ end_in s - start_in s → restored_row (Held n) ≡ held_row_of s
-  unfolding held_row_of restored_row
-  held_counted e q = simp e (ap held_row q)
-
-  pub position_refused : (out : List ℕ) → is_state s ≡ false → (written_row (written.Refused BadState), out) ≡ write_of (position_image s) out
-  unfolding position_image
-  position_refused out e = simp e (refuses BadState out)
-
   module _ (out : List ℕ) (good : is_state s ≡ true) where
     at_position : position_image s ≡ bytes (position_in s ∷ [])
     unfolding position_image
     at_position = simp good
 
-    pub position_short : length out < 1 → (written_row (written.Refused BufferOverflow), out) ≡ write_of (position_image s) out
+    pub position_short : length out < 1 → (written_row (Err BufferOverflow), out) ≡ write_of (position_image s) out
     position_short none = rw at_position (overflows (position_in s ∷ []) out 1 refl none)
 
-    pub position_given : {q : ℕ} → 1 ≤ length out → q ≡ position_in s → (written_row (written.Wrote 1), set out 0 q) ≡ write_of (position_image s) out
+    pub position_given : {q : ℕ} → 1 ≤ length out → q ≡ position_in s → (written_row (Ok 1), set out 0 q) ≡ write_of (position_image s) out
     position_given {q} some e =
-        ap (λ (k : ℕ). (written_row (written.Wrote 1), set out 0 k)) e
-        ∙ ap (λ (l : List ℕ). (written_row (written.Wrote 1), l)) (set_pasted out 0 (position_in s) some)
+        ap (λ (k : ℕ). (written_row (Ok 1), set out 0 k)) e
+        ∙ ap (λ (l : List ℕ). (written_row (Ok 1), l)) (set_pasted out 0 (position_in s) some)
         ∙ rw at_position (writes (position_in s ∷ []) out 1 refl some)
-
-  pub reset_refused : has_size s ≡ false → (restored_row (Refused BadState), s) ≡ reset_state s
-  unfolding reset_state restored_row
-  reset_refused e = simp e
-
-  pub save_refused : (out : List ℕ) → has_size s ≡ false → (written_row (written.Refused BadState), out) ≡ write_of (state_image s) out
-  unfolding state_image
-  save_refused out e = simp e (refuses BadState out)
-
-  pub restore_refused : (form : List ℕ) → has_size s ≡ false → (restored_row (Refused BadState), s) ≡ restore_state form s
-  unfolding restore_state restored_row
-  restore_refused form e = simp e
 
 -- ---- done
 
 module _ (s : List ℕ) (fits : length s ≡ size) where
-  pub reset_done : {after : List ℕ} → after ≡ placed (set (set s 0 0) 1 0) position_at (bytes_of 8 0) → (restored_row (Held 0), after) ≡ reset_state s
+  pub reset_done : {after : List ℕ} → after ≡ placed (set (set s 0 0) 1 0) position_at (bytes_of 8 0) → (restored_row (Ok 0), after) ≡ reset_state s
   unfolding reset_state restored_row
   reset_done e = simp (has_size_lem s fits) (ap (λ (l : List ℕ). (held_row 0, l)) (e ∙ state_written s fits 0 0 0))
-
-  pub save_done : {start end position : ℕ} (out : List ℕ) {x : Left} → start ≡ start_in s → end ≡ end_in s → position ≡ position_in s
-      → x ≡ write_of (save_image (places_in s) start end position) out → x ≡ write_of (state_image s) out
-  unfolding state_image
-  save_done out u v w e = e ∙ simp (has_size_lem s fits, u, v, w)
 
   module _ (form : List ℕ) where
     at_good : is_form limit form ≡ true
@@ -102,9 +72,9 @@ module _ (s : List ℕ) (fits : length s ≡ size) where
     restores good = simp (has_size_lem s fits, good)
 
     module _ {ys : List ℕ} (full : length ys ≡ limit) where
-      pub restore_done : (n : ℕ) {b q : ℕ} {after : List ℕ} → (restored_row (Held n), ys) ≡ restore_of form (places_in s) → b ≡ n % 256 → q ≡ forms.position_in form
+      pub restore_done : (n : ℕ) {b q : ℕ} {after : List ℕ} → (restored_row (Ok n), ys) ≡ restore_of form (places_in s) → b ≡ n % 256 → q ≡ forms.position_in form
           → after ≡ placed (set (set (states.written s fits ys full) 0 0) 1 b) position_at (bytes_of 8 q)
-          → (restored_row (Held n), after) ≡ restore_state form s
+          → (restored_row (Ok n), after) ≡ restore_state form s
       unfolding restored_row
       restore_done n {b} {q} {after} e low at put =
           by_test (is_form limit form)
@@ -120,8 +90,8 @@ module _ (s : List ℕ) (fits : length s ≡ size) where
           ∙ sym (restores good))
           (λ bad. absurd (not_zero BadState (sym (ap (λ (x : Left). x.0) (e ∙ at_bad bad)))))
 
-      pub restore_kept : (r : Refusal) → (restored_row (Refused r), ys) ≡ restore_of form (places_in s)
-          → (restored_row (Refused r), states.written s fits ys full) ≡ restore_state form s
+      pub restore_kept : (r : Refusal) → (restored_row (Err r), ys) ≡ restore_of form (places_in s)
+          → (restored_row (Err r), states.written s fits ys full) ≡ restore_state form s
       unfolding restored_row restore_state
       restore_kept r e =
           by_test (is_form limit form)

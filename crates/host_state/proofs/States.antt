@@ -1,17 +1,16 @@
 -- What the tests of a state say, its four parts, and the state after these were written.
 -- Assumes nothing.
 use mathlib.Core.Path.{◌≡◌, refl, sym, ap, ap₂, ◌∙◌}
-use mathlib.Core.Bool.{Bool, true, false, not, and-eq-true_iff}
+use mathlib.Core.Bool.{true, and-eq-true_iff}
 use mathlib.Core.List.{List, ◌∷◌, ◌++◌, append-nil}
 use Prim.Native.Nat.{ℕ, ◌+◌, ◌-◌, ◌^◌, ◌≤◌, ◌<◌}
 use native.Mathlib.Nat.{mod-eq_of_lt}
 use native.Mathlib.Omega.{arith}
-use borrow.Author.Tests.{eqb-true, eq-eqb, not-true, not-false}
+use borrow.Author.Tests.{eqb-true, eq-eqb}
 use lib.ListN.{length, take, drop, set, length-append, length-drop, drop_of_length-le, take-append-drop}
 use lib.Seq.{take_at, drop_at, take_all, take-take, drop-drop}
 use Rattle.base.specs.Parts.{part, pasted, placed}
 use Rattle.base.proofs.Parts.{length_part, drop_take, placed_fits}
-use Rattle.base.proofs.Tests.{not_as}
 use Rattle.numbers.specs.BigEndian.{be_of, bytes_of}
 use Rattle.numbers.proofs.BigEndian.{length_bytes_of, be_of_bytes_of}
 use Rattle.reading.specs.Reading.{limit}
@@ -25,19 +24,10 @@ use Rattle.host_state.specs.State.{size, position_at, state_of, start_in, end_in
 
 module _ (s : List ℕ) where
   pub sized : has_size s ≡ true → length s ≡ size
-  unfolding has_size
   sized e = eqb-true (length s) size e
 
   pub has_size_lem : length s ≡ size → has_size s ≡ true
-  unfolding has_size
   has_size_lem e = eq-eqb (length s) size e
-
-  -- as the code asks: `!has_size(state)`
-  pub right_size : {answer : Bool} → answer ≡ has_size s → not answer ≡ false → length s ≡ size
-  right_size e t = sized (not-false (has_size s) (not_as e t))
-
-  pub wrong_size : {answer : Bool} → answer ≡ has_size s → not answer ≡ true → has_size s ≡ false
-  wrong_size e t = not-true (has_size s) (not_as e t)
 
   pub state_size : is_state s ≡ true → length s ≡ size
   unfolding is_state

@@ -1,7 +1,7 @@
 -- A call over the places is a call over the state; and with the position moved by what its answer dropped, it is the call with a position.
 -- Assumes nothing.
 use mathlib.Core.Path.{◌≡◌, refl, sym, ap, ap₂, ◌∙◌, subst}
-use mathlib.Core.Bool.{Bool, true, false, true≢false, ◌&&◌, not, and-eq-true_iff}
+use mathlib.Core.Bool.{true, false, true≢false, ◌&&◌, not, and-eq-true_iff}
 use mathlib.Core.List.{List}
 use Prim.Native.Nat.{ℕ, ◌-◌, ◌≤◌, ◌<◌}
 use native.Mathlib.Omega.{arith}
@@ -15,7 +15,7 @@ use Rattle.numbers.proofs.BigEndian.{length_bytes_of}
 use Rattle.reading.specs.Reading.{limit}
 use Rattle.reading.specs.Call.{call}
 use Rattle.reading.specs.History.{answered}
-use Rattle.reading.specs.Positions.{greatest, behind, is_within}
+use Rattle.reading.specs.Positions.{greatest, behind}
 use Rattle.refusals.specs.declared.Refusal.TheVariants.{BadState, PositionRange}
 use Rattle.stream.specs.declared.step.Reply.TheVariants.{Refused}
 use Rattle.stream.specs.Step.{is_span, Steps}
@@ -47,16 +47,6 @@ same_steps {m} {m'} {before} {start} {start'} {end} {end'} input {after} {after'
     (subst (λ (y : ℕ). Steps m' before y end input after r) u
     (subst (λ (y : ℕ). Steps y before start end input after r) p steps))))
 
--- a state of a wrong length is refused
-pub refused_steps : (s input : List ℕ) → has_size s ≡ false → PlacesStep s input s (record { taken = 0; reply = Refused BadState })
-refused_steps s input bad =
-    record {
-      refuses = λ _. (refl, refl);
-      same = refl;
-      steps = λ good. absurd (true≢false (sym good ∙ bad));
-      stands = λ _. refl;
-    }
-
 module _ (s : List ℕ) (fits : length s ≡ size) (ys : List ℕ) (full : length ys ≡ limit) where
   pub places_step : {start end a b : ℕ} (input : List ℕ) (r : Moved) → start ≡ start_in s → end ≡ end_in s → a ≡ r.start → b ≡ r.end
       → Steps (length (places_in s)) (places_in s) start end input ys r
@@ -85,15 +75,6 @@ module _ (s input : List ℕ) where
       let bounds = state_bounds s good in
       simp (good, is_within_lem (position_in s) (end_in s - start_in s) (length input) (omega (arith, bounds.0, bounds.1))))
       (λ bad. simp bad)
-
-  pub no_state : is_state s ≡ false → false ≡ is_beyond s input
-  unfolding is_beyond
-  no_state bad = simp bad
-
-  pub tested : {position count : ℕ} {answer : Bool} → is_state s ≡ true → position ≡ position_in s → count ≡ end_in s - start_in s
-      → answer ≡ is_within position count (length input) → not answer ≡ is_beyond s input
-  unfolding is_beyond can_number
-  tested good p c e = ap not (e ∙ ap₂ (λ (x y : ℕ). is_within x y (length input)) p c) ∙ simp good
 
   -- what it says of a valid state
   pub can_number_lem : is_state s ≡ true → is_beyond s input ≡ false → can_number s input ≡ true

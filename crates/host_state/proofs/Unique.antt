@@ -12,7 +12,7 @@ use Rattle.base.proofs.Tests.{by_test}
 use Rattle.base.proofs.Unique.{OneAnswer, same}
 use Rattle.refusals.specs.Row.{number_of}
 use Rattle.refusals.specs.declared.Refusal.TheVariants.{BadState}
-use Rattle.writing.specs.declared.Written.{Written}
+use Rattle.writing.specs.Writing.{Written}
 use Rattle.writing.proofs.Rows.{one_write}
 use Rattle.reading.specs.Reading.{limit}
 use Rattle.stream.specs.Step.{is_span}
@@ -25,7 +25,7 @@ use Rattle.numbered.specs.Seen.{SeenAt}
 use Rattle.numbered.specs.declared.Advanced.{Advanced}
 use Rattle.numbered.specs.declared.Answered.{Answered}
 use Rattle.numbered.proofs.Unique.{not_beyond, one_seen_at}
-use Rattle.saved.specs.declared.form.Restored.{Restored}
+use Rattle.saved.specs.Save.{Restored}
 use Rattle.saved.proofs.Rows.{one_restored, one_restore}
 use Rattle.host_state.specs.State.{size, position_at, start_in, end_in, places_in, position_in, has_size, is_state}
 use Rattle.host_state.specs.Step.{moved_in, PlacesStep, can_number, advanced_in, StateSteps}

@@ -36,7 +36,7 @@ position_in state = be_of (part state position_at 8)
 abbrev pub held_by : List ℕ → List ℕ
 held_by state = held_in (places_in state) (start_in state) (end_in state)
 
-unfoldable pub has_size : List ℕ → Bool
+abbrev pub has_size : List ℕ → Bool
 has_size state = eqb (length state) size
 
 -- a valid state: its start and its end mark a part of its places, wherever it stands

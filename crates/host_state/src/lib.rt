@@ -15,10 +15,9 @@ use base::{byte_at, narrow, wide};
 use numbered::is_within;
 use numbers::{get_u64, put_u64};
 use refusals::Refusal;
-use saved::form::{Restored, position_in, restore_in, save_in};
+use saved::form::{position_in, restore_in, save_in};
 use stream::LIMIT;
 use stream::step::{Replied, Reply, is_span, step_in};
-use writing::Written;
 
 pub const START: usize = 0;
 
@@ -41,13 +40,11 @@ pub fn has_size(state: &[u8]) -> bool
 }
 
 // Whether these bytes are a valid state: of that size, and start and end mark a part of the places.
+#[tactic(auto, unfolding(crate::specs::State::is_state))]
 pub fn is_state(state: &[u8]) -> bool
     ensures { result ≡ is_state state.now }
 {
-    if !has_size(state) {
-        return false;
-    }
-    is_span(LIMIT, wide(state[START]), wide(state[END]))
+    has_size(state) && is_span(LIMIT, wide(state[START]), wide(state[END]))
 }
 
 // Where the state stands in the stream: at its first held byte, else at the next byte.
@@ -68,13 +65,12 @@ pub fn move_to(state: &mut [u8], position: u64)
 fn count(state: &[u8]) -> usize
     ensures { result ≡ end_in state.now - start_in state.now }
 {
-    let start = wide(byte_at(state, START));
-    let end = wide(byte_at(state, END));
-    if start <= end { end - start } else { 0 }
+    wide(byte_at(state, END)).saturating_sub(wide(byte_at(state, START)))
 }
 
 // A valid state, and input behind which its position would be above 2^64 - 1. Up to NEAR none is: a slice has fewer than 2^63 bytes, and a state holds 64
 // at most.
+#[tactic(auto, unfolding(crate::specs::Step::is_beyond, crate::specs::Step::can_number))]
 pub fn is_beyond(state: &[u8], input: &[u8]) -> bool
     ensures { result ≡ is_beyond state.now input.now }
 {
@@ -82,10 +78,7 @@ pub fn is_beyond(state: &[u8], input: &[u8]) -> bool
     if position <= NEAR {
         return false;
     }
-    if !is_state(state) {
-        return false;
-    }
-    !is_within(position, count(state), input.len())
+    is_state(state) && !is_within(position, count(state), input.len())
 }
 
 // One call over the places: the first answer of the held bytes followed by the input. The position stays: whoever calls moves it.
@@ -103,56 +96,59 @@ pub fn step(state: &mut [u8], input: &[u8]) -> Replied
     let moved = step_in(&mut state[PLACES..POSITION], start, end, input);
     state[START] = narrow(moved.start);
     state[END] = narrow(moved.end);
-    let reply = moved.reply;
     Replied {
         taken: moved.taken,
-        reply,
+        reply: moved.reply,
     }
 }
 
 // How many bytes are held.
-pub fn held(state: &[u8]) -> Restored
+#[tactic(auto, unfolding(crate::specs::State::is_state, crate::specs::Saving::held_row_of, saved::specs::Save::restored_row))]
+pub fn held(state: &[u8]) -> Result<usize, Refusal>
     ensures { restored_row result ≡ held_row_of state.now }
 {
     if !is_state(state) {
-        return Restored::Refused(Refusal::BadState);
+        return Err(Refusal::BadState);
     }
-    Restored::Held(wide(state[END]) - wide(state[START]))
+    Ok(wide(state[END]) - wide(state[START]))
 }
 
 // Where the state stands in the stream, at the front of out.
-pub fn position(state: &[u8], out: &mut [u64]) -> Written
+#[tactic(auto, unfolding(crate::specs::Saving::position_image, writing::specs::Writing::written_row, writing::specs::Writing::write_of))]
+pub fn position(state: &[u8], out: &mut [u64]) -> Result<usize, Refusal>
     ensures { (written_row result, out.new) ≡ write_of (position_image state.now) out.old }
 {
     if !is_state(state) {
-        return Written::Refused(Refusal::BadState);
+        return Err(Refusal::BadState);
     }
-    if out.len() < 1 {
-        return Written::Refused(Refusal::BufferOverflow);
-    }
-    out[0] = position_of(state);
-    Written::Wrote(1)
+    let Some(first) = out.first_mut() else {
+        return Err(Refusal::BufferOverflow);
+    };
+    *first = position_of(state);
+    Ok(1)
 }
 
 // Forgets the held bytes. A new stream begins.
-pub fn reset(state: &mut [u8]) -> Restored
+#[tactic(auto, unfolding(crate::specs::Saving::reset_state, saved::specs::Save::restored_row))]
+pub fn reset(state: &mut [u8]) -> Result<usize, Refusal>
     ensures { (restored_row result, state.new) ≡ reset_state state.old }
 {
     if !has_size(state) {
-        return Restored::Refused(Refusal::BadState);
+        return Err(Refusal::BadState);
     }
     state[START] = 0;
     state[END] = 0;
     move_to(state, 0);
-    Restored::Held(0)
+    Ok(0)
 }
 
 // The saved form of the held bytes and of their position, at the front of out.
-pub fn save(state: &[u8], out: &mut [u8]) -> Written
+#[tactic(auto, unfolding(crate::specs::Saving::state_image, writing::specs::Writing::written_row, writing::specs::Writing::write_of))]
+pub fn save(state: &[u8], out: &mut [u8]) -> Result<usize, Refusal>
     ensures { (written_row result, out.new) ≡ write_of (state_image state.now) out.old }
 {
     if !has_size(state) {
-        return Written::Refused(Refusal::BadState);
+        return Err(Refusal::BadState);
     }
     let start = wide(state[START]);
     let end = wide(state[END]);
@@ -161,20 +157,16 @@ pub fn save(state: &[u8], out: &mut [u8]) -> Written
 }
 
 // The state holds what a saved form says.
-pub fn restore(state: &mut [u8], form: &[u8]) -> Restored
+#[tactic(auto, unfolding(crate::specs::Saving::restore_state, saved::specs::Save::restored_row))]
+pub fn restore(state: &mut [u8], form: &[u8]) -> Result<usize, Refusal>
     ensures { (restored_row result, state.new) ≡ restore_state form.now state.old }
 {
     if !has_size(state) {
-        return Restored::Refused(Refusal::BadState);
+        return Err(Refusal::BadState);
     }
-    let restored = restore_in(&mut state[PLACES..POSITION], form);
-    match restored {
-        Restored::Held(count) => {
-            state[START] = 0;
-            state[END] = narrow(count);
-            move_to(state, position_in(form));
-            restored
-        }
-        Restored::Refused(_) => restored,
-    }
+    let count = restore_in(&mut state[PLACES..POSITION], form)?;
+    state[START] = 0;
+    state[END] = narrow(count);
+    move_to(state, position_in(form));
+    Ok(count)
 }

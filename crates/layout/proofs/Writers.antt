@@ -1,5 +1,6 @@
 -- A writer that calls for one field after the other keeps the promise of every writer, over the layout.
 -- Assumes nothing.
+use Rattle.std.specs.Prelude.{Ok, Err}
 use Prim.Native.Nat.{ℕ, zero, suc, ◌+◌, ◌≤◌, ◌<◌}
 use mathlib.Core.Bool.{Bool, true, false}
 use mathlib.Core.Path.{◌≡◌, refl, ap, sym, ◌∙◌}
@@ -19,7 +20,7 @@ use Rattle.numbers.proofs.TwosComplement.{bytes_of_natural}
 use Rattle.layout.specs.Layout.{Field, size_of, bytes_for, record_bytes}
 use Rattle.refusals.specs.declared.Refusal.TheVariants.{BufferOverflow}
 use Rattle.writing.specs.Writing.{bytes, written_row, write_of}
-use Rattle.writing.specs.declared.Written.TheVariants.{Wrote, Refused}
+use Rattle.layout.specs.Packet.{most_payload, Small}
 use Rattle.layout.proofs.Fields.{length_bytes_for, length_record_bytes}
 use Rattle.writing.proofs.Writing.{writes, overflows}
 use Rattle.layout.proofs.Carried.{machine, carry}
@@ -88,18 +89,18 @@ module _ (fs : List Field) (vs : List ℤ) (full : length fs ≤ length vs) (buf
   long : length (record_bytes fs vs) ≡ size_of fs
   long = length_record_bytes fs vs full
 
-  pub no_room : length buffer < size_of fs → (written_row (Refused BufferOverflow), buffer) ≡ write_of (bytes (record_bytes fs vs)) buffer
+  pub no_room : length buffer < size_of fs → (written_row (Err BufferOverflow), buffer) ≡ write_of (bytes (record_bytes fs vs)) buffer
   no_room = overflows (record_bytes fs vs) buffer (size_of fs) long
 
   pub wrote :
       {after : List ℕ} → size_of fs ≤ length buffer → after ≡ pasted buffer 0 (record_bytes fs vs)
-      → (written_row (Wrote (size_of fs)), after) ≡ write_of (bytes (record_bytes fs vs)) buffer
-  wrote room e = ap (λ (l : List ℕ). (written_row (Wrote (size_of fs)), l)) e ∙ writes (record_bytes fs vs) buffer (size_of fs) long room
+      → (written_row (Ok (size_of fs)), after) ≡ write_of (bytes (record_bytes fs vs)) buffer
+  wrote room e = ap (λ (l : List ℕ). (written_row (Ok (size_of fs)), l)) e ∙ writes (record_bytes fs vs) buffer (size_of fs) long room
 
   -- by one call for each field ..
   pub wrote_all :
       {after : List ℕ} → size_of fs ≤ length buffer → Typed fs vs → after ≡ put_from fs vs 0 buffer
-      → (written_row (Wrote (size_of fs)), after) ≡ write_of (bytes (record_bytes fs vs)) buffer
+      → (written_row (Ok (size_of fs)), after) ≡ write_of (bytes (record_bytes fs vs)) buffer
   wrote_all room typed e = wrote room (put_fields fs vs 0 buffer (omega arith) typed e)
 
   -- .. or the first n fields, and then the others
@@ -107,7 +108,7 @@ module _ (fs : List Field) (vs : List ℤ) (full : length fs ≤ length vs) (buf
       (n : ℕ) {half after : List ℕ} → size_of fs ≤ length buffer
       → half ≡ pasted buffer 0 (record_bytes (take n fs) (take n vs))
       → after ≡ pasted half (size_of (take n fs)) (record_bytes (drop n fs) (drop n vs))
-      → (written_row (Wrote (size_of fs)), after) ≡ write_of (bytes (record_bytes fs vs)) buffer
+      → (written_row (Ok (size_of fs)), after) ≡ write_of (bytes (record_bytes fs vs)) buffer
   wrote_in_two n {half} {after} room first second =
       let xs : List ℕ = record_bytes (take n fs) (take n vs) in
       let ys : List ℕ = record_bytes (drop n fs) (drop n vs) in
@@ -119,3 +120,7 @@ module _ (fs : List Field) (vs : List ℤ) (full : length fs ≤ length vs) (buf
       ∙ ap (λ (k : ℕ). pasted (pasted buffer 0 xs) k ys) (sym (zero-add (size_of (take n fs))))
       ∙ pasted_append buffer 0 (size_of (take n fs)) xs ys front (omega arith)
       ∙ ap (pasted buffer 0) (in_two n fs vs))
+
+-- a record's bytes are a payload, where its layout has from 1 to 60
+pub record_small : (fs : List Field) (vs : List ℤ) → length fs ≤ length vs → 0 < size_of fs → size_of fs ≤ most_payload → Small (bytes (record_bytes fs vs))
+record_small fs vs h some few = omega (arith, length_record_bytes fs vs h)

@@ -1,2 +1,3 @@
 pub mod Layout
 pub mod Decoded
+pub mod Packet

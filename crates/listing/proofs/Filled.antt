@@ -8,6 +8,8 @@ use native.Mathlib.Nat.{zero-add, add-zero, sub-zero}
 use native.Mathlib.Omega.{arith}
 use lib.ListN.{length, drop, length-append, length-drop}
 use lib.Seq.{drop-drop}
+use Rattle.std.specs.Prelude.{None, Some, Result, Ok, Err}
+use Rattle.std.specs.Result.{is_ok}
 use Rattle.base.specs.Parts.{pasted}
 use Rattle.base.proofs.Tests.{by_test}
 use Rattle.reading.specs.Answer.{Answer}
@@ -16,6 +18,7 @@ use Rattle.reading.specs.Call.{call}
 use Rattle.reading.specs.History.{answered}
 use Rattle.reading.specs.Positions.{behind}
 use Rattle.reading.proofs.Positions.{not_before, positioned}
+use Rattle.refusals.specs.declared.Refusal.{Refusal}
 use Rattle.refusals.specs.declared.Refusal.TheVariants.{BadState, PositionRange}
 use Rattle.stream.specs.Places.{held_in}
 use Rattle.stream.specs.Step.{is_span, asks_for_more, Moves, Steps}
@@ -28,14 +31,12 @@ use Rattle.numbered.proofs.Within.{within}
 use Rattle.lines.specs.Lines.{line}
 use Rattle.lines.specs.Put.{Puts}
 use Rattle.lines.proofs.Puts.{puts_none, puts_then, puts_as, length_puts}
-use Rattle.listing.specs.Numbering.{lead, past, text_of, room_for, is_countable, moved_on, Reaches}
+use Rattle.listing.specs.Numbering.{Numbering, lead, past, text_of, room_for, is_countable, moved_on, Reaches}
 use Rattle.listing.specs.Listing.{Listing, after, list_of}
-use Rattle.listing.specs.Fill.{Turns, Fills, Lists, unchanged}
+use Rattle.listing.specs.Fill.{Turns, Fills, Lists}
 use Rattle.listing.specs.declared.Turn.{Turn}
 use Rattle.listing.specs.declared.Listed.{Listed}
 use Rattle.listing.specs.declared.Status.TheVariants.{More, Full}
-use Rattle.listing.specs.declared.numbering.Numbering.{Numbering}
-use Rattle.listing.specs.declared.numbering.Numbering.TheVariants.{Off, From}
 use Rattle.listing.proofs.Numberings.{text_append, text_none, past_append, past_none, past_says, room_past, no_line, one_line}
 use Rattle.listing.proofs.Listings.{after_after, at_full, at_stop, at_says}
 
@@ -117,17 +118,17 @@ module _ {m : ℕ} {n : Numbering} {wanted : Listing} {stream out₀ input : Lis
   now_is = by n
     where
       by : (k : Numbering) → moved_on k (first + taken - (to - from)) ≡ past k f.given
-      by Off = refl
-      by (From p) =
+      by None = refl
+      by (Some p) =
           let same : p + (first + taken - (to - from)) ≡ behind p f.given = omega (arith, dropped p, not_before p f.given) in
-          ap From same
+          ap Some same
 
   pub reaches : is_countable n first (length input) ≡ true → Reaches n first taken (to - from)
   reaches = by n
     where
       by : (k : Numbering) → is_countable k first (length input) ≡ true → Reaches k first taken (to - from)
-      by Off enough = tt
-      by (From p) enough =
+      by None enough = tt
+      by (Some p) enough =
           (omega (arith, within p first (length input) enough, f.going.inside), omega (arith, dropped p, not_before p f.given))
 
   -- no room for the longest line
@@ -239,8 +240,12 @@ module _ {m : ℕ} {n : Numbering} {wanted : Listing} {stream out₀ input : Lis
         })
 
 -- what is not a valid state, what can't be numbered, and what is listed
+abbrev got : Listed → Result Listed Refusal → Listed
+got other (Ok l) = l
+got other (Err e) = other
+
 module _ {before : List ℕ} {start end : ℕ} {n : Numbering} {input out : List ℕ} where
-  pub refused_list : {r : Listed} → is_span (length before) start end ≡ false → r ≡ unchanged start end n BadState
+  pub refused_list : {r : Result Listed Refusal} → is_span (length before) start end ≡ false → r ≡ Err BadState
       → Lists before start end n input out before out r
   refused_list bad e =
       record {
@@ -249,8 +254,8 @@ module _ {before : List ℕ} {start end : ℕ} {n : Numbering} {input out : List
         fills = λ good _. absurd (true≢false (sym good ∙ bad));
       }
 
-  pub beyond_list : {r : Listed} → is_span (length before) start end ≡ true → is_countable n (end - start) (length input) ≡ false
-      → r ≡ unchanged start end n PositionRange → Lists before start end n input out before out r
+  pub beyond_list : {r : Result Listed Refusal} → is_span (length before) start end ≡ true → is_countable n (end - start) (length input) ≡ false
+      → r ≡ Err PositionRange → Lists before start end n input out before out r
   beyond_list good short e =
       record {
         refuses = λ bad. absurd (true≢false (sym good ∙ bad));
@@ -258,23 +263,29 @@ module _ {before : List ℕ} {start end : ℕ} {n : Numbering} {input out : List
         fills = λ _ enough. absurd (true≢false (sym enough ∙ short));
       }
 
-  pub filled_list : {places outAfter : List ℕ} {r : Listed} → is_span (length before) start end ≡ true → is_countable n (end - start) (length input) ≡ true
-      → Fills (length before) (list_of (length before) n (held_in before start end) input (length out)) input out places outAfter r
-      → Lists before start end n input out places outAfter r
-  filled_list good enough d =
+  pub filled_list : {places outAfter : List ℕ} {l : Listed} → is_span (length before) start end ≡ true → is_countable n (end - start) (length input) ≡ true
+      → Fills (length before) (list_of (length before) n (held_in before start end) input (length out)) input out places outAfter l
+      → Lists before start end n input out places outAfter (Ok l)
+  filled_list {l = l} good enough d =
       record {
         refuses = λ bad. absurd (true≢false (sym good ∙ bad));
         beyond = λ _ short. absurd (true≢false (sym enough ∙ short));
-        fills = λ _ _. d;
+        fills = λ _ _. (l, (refl, d));
       }
 
-  -- refused or not, no more is taken and written than there is
-  pub list_fits : {places outAfter : List ℕ} {r : Listed} → Lists before start end n input out places outAfter r → start ≤ end → end ≤ length before
-      → (r.taken ≤ length input) × ((r.written ≤ length out) × ((r.start ≤ r.end) × (r.end ≤ length before)))
-  list_fits {r = r} lists low high =
+  -- what is listed was not refused
+  pub listed_fills : {places outAfter : List ℕ} {l : Listed} → Lists before start end n input out places outAfter (Ok l)
+      → (is_span (length before) start end ≡ true)
+      × Fills (length before) (list_of (length before) n (held_in before start end) input (length out)) input out places outAfter l
+  listed_fills {places} {outAfter} {l} lists =
       by_test (is_span (length before) start end)
       (λ good.
       by_test (is_countable n (end - start) (length input))
-      (λ enough. let d = lists.fills good enough in (d.taken_in, (d.written_in, (d.ordered, d.inside))))
-      (λ short. let e = (lists.beyond good short).0 in rw e (omega arith, (omega arith, (low, high)))))
-      (λ bad. let e = (lists.refuses bad).0 in rw e (omega arith, (omega arith, (low, high))))
+      (λ enough.
+      let d = lists.fills good enough in (
+        good,
+        subst (λ (k : Listed). Fills (length before) (list_of (length before) n (held_in before start end) input (length out)) input out places outAfter k)
+            (sym (ap (got l) d.1.0)) d.1.1,
+      ))
+      (λ short. absurd (true≢false (ap is_ok (lists.beyond good short).0))))
+      (λ bad. absurd (true≢false (ap is_ok (lists.refuses bad).0)))

@@ -9,6 +9,7 @@ use native.Mathlib.Omega.{arith}
 use lib.Dec.{ltb}
 use lib.ListN.{length, take, drop}
 use lib.Seq.{drop-drop, drop-length, take_at}
+use Rattle.std.specs.Prelude.{None, Some, Ok}
 use Rattle.base.proofs.Parts.{pasted_front}
 use Rattle.base.proofs.Tests.{by_test}
 use Rattle.reading.specs.Answer.{Answer}
@@ -23,18 +24,16 @@ use Rattle.reading.proofs.History.{faithful}
 use Rattle.reading.proofs.Positions.{positioned, never_beyond}
 use Rattle.numbered.proofs.Within.{within}
 use Rattle.stream.specs.Places.{held_in}
-use Rattle.stream.specs.Step.{is_span}
 use Rattle.stream.proofs.Held.{length_held}
 use Rattle.stream.proofs.Spans.{span_bounds}
 use Rattle.lines.specs.Lines.{line}
-use Rattle.listing.specs.Numbering.{lead, past, text_of, last_line, room_for, is_countable}
+use Rattle.listing.specs.Numbering.{Numbering, lead, past, text_of, last_line, room_for, is_countable}
 use Rattle.listing.specs.Listing.{Listing, full, asking, list_from, list_of}
 use Rattle.listing.specs.Fill.{Fills, Lists}
 use Rattle.listing.specs.Whole.{whole_text}
 use Rattle.listing.specs.declared.Listed.{Listed}
-use Rattle.listing.specs.declared.numbering.Numbering.{Numbering}
-use Rattle.listing.specs.declared.numbering.Numbering.TheVariants.{Off, From}
 use Rattle.listing.proofs.Numberings.{text_append, text_none, past_append, past_none, past_stop, past_says, no_line, one_line}
+use Rattle.listing.proofs.Filled.{listed_fills}
 use Rattle.listing.proofs.Listings.{left_is}
 
 -- of the stream so far `held` is held, `unread` is still to be taken, the text is the lines of the answers given, by a numbering that began with n, and
@@ -181,7 +180,7 @@ so_far {m} {n} {held = held} {unread} t more =
 
 -- ---- The positions of a text are the reading's, and where they all can be numbered no call is refused
 
-pub positions : {m p : ℕ} {stream held unread : List ℕ} {now : Numbering} {text : List ℕ} (t : Text m (From p) stream held unread now text)
+pub positions : {m p : ℕ} {stream held unread : List ℕ} {now : Numbering} {text : List ℕ} (t : Text m (Some p) stream held unread now text)
     → Positioned m p stream held unread t.given
 positions {p = p} t = positioned t.history p
 
@@ -190,8 +189,8 @@ pub never_refused : {m : ℕ} {n : Numbering} {stream held : List ℕ} {now : Nu
 never_refused {m} {n} {stream} {held} {now} input t fits = rw t.number (by n fits)
   where
     by : (k : Numbering) → is_countable k 0 (length stream) ≡ true → is_countable (past k t.given) (length held) (length input) ≡ true
-    by Off fits = refl
-    by (From p) fits =
+    by None fits = refl
+    by (Some p) fits =
         never_beyond t.history p input [] (sym (append-nil input))
         (omega (arith, within p 0 (length stream) fits))
 
@@ -209,19 +208,13 @@ module _ {m : ℕ} {l : Listing} {input₀ out places outAfter : List ℕ} {r : 
       text_as (sym d.held_is) (ap (λ (k : ℕ). drop k input) (sym d.taken_is)) (sym d.next_is) (ap (λ (x : List ℕ). text ++ x) (sym wrote))
       (subst (After m n stream held input text) (sym e) (after_listed input room t)).text_on
 
-pub still_few : {before : List ℕ} {start end : ℕ} {n : Numbering} {input out places outAfter : List ℕ} {r : Listed} → length places ≡ length before
-    → start ≤ end → end ≤ length before → end - start < length before → Lists before start end n input out places outAfter r
-    → r.end - r.start < length before
-still_few {before} {start} {end} {n} {input} {out} {places} {r = r} same low high few lists =
+pub still_few : {before : List ℕ} {start end : ℕ} {n : Numbering} {input out places outAfter : List ℕ} {l : Listed} → length places ≡ length before
+    → start ≤ end → end ≤ length before → end - start < length before → Lists before start end n input out places outAfter (Ok l)
+    → l.end - l.start < length before
+still_few {before} {start} {end} {n} {input} {out} {places} {l = l} same low high few lists =
     let m = length before in
-    by_test (is_span m start end)
-    (λ good.
-    by_test (is_countable n (end - start) (length input))
-    (λ enough.
-    let d = lists.fills good enough in
+    let d = listed_fills lists in
     let held = length_held before start end low high in
-    let left = length_held places r.start r.end d.ordered (omega (arith, d.inside)) in
+    let left = length_held places l.start l.end d.1.ordered (omega (arith, d.1.inside)) in
     let on = after_listed input (length out) (text_offer input (text_begin m n (held_in before start end))) in
-    omega (arith, ap length d.held_is, on.few (span_bounds m start end good).0 (omega arith)))
-    (λ short. let e = (lists.beyond good short).0 in rw e few))
-    (λ bad. let e = (lists.refuses bad).0 in rw e few)
+    omega (arith, ap length d.1.held_is, on.few (span_bounds m start end d.0).0 (omega arith))

@@ -12,9 +12,8 @@ use Rattle.reading.specs.Call.{dropped_by, call}
 use Rattle.reading.proofs.Reading as read
 use Rattle.reading.proofs.Call.{answers_first, rest}
 use Rattle.lines.specs.Lines.{line}
-use Rattle.listing.specs.Numbering.{lead, past, room_for}
+use Rattle.listing.specs.Numbering.{Numbering, lead, past, room_for}
 use Rattle.listing.specs.Listing.{Listing, after, full, asking, list_from, list_of}
-use Rattle.listing.specs.declared.numbering.Numbering.{Numbering}
 
 -- two runs of lines are one
 pub after_after : (l k : List ℕ) (n j : ℕ) (more : Listing) → after l n (after k j more) ≡ after (l ++ k) (n + j) more

@@ -8,6 +8,7 @@ use native.Mathlib.Omega.{arith}
 use borrow.Author.Tests.{ne_eqb, leb-true}
 use lib.Dec.{ltb, leb}
 use lib.ListN.{length, get_or}
+use Rattle.std.specs.Prelude.{None, Some}
 use Rattle.base.proofs.Tests.{by_test}
 use Rattle.reading.specs.Answer.{Answer, InvalidSync, InvalidPacketLength, InvalidCrc, Frame, drops, calculated, carried}
 use Rattle.reading.specs.Reading.{reading}
@@ -16,14 +17,13 @@ use Rattle.lines.specs.Digits.{hex_digit, decimal_within, decimal}
 use Rattle.lines.specs.Lines.{frame_word, sync_word, length_word, crc_word, held_word, spaced_hex, spaced_decimal, leading, line_end, frame_line, byte_line, crc_line, held_line, line, lines_of}
 use Rattle.listing.specs.Numbering.{numbered_lines}
 use Rattle.listing.specs.Whole.{whole_listing, whole_where, whole_text, shortened, unnumbered}
-use Rattle.listing.specs.declared.numbering.Numbering.TheVariants.{Off, From}
 
 -- ---- The texts of both programs are those of the numbering
 
-pub list_text : (m : ℕ) (stream : List ℕ) → whole_text Off m stream ≡ whole_listing m stream
+pub list_text : (m : ℕ) (stream : List ℕ) → whole_text None m stream ≡ whole_listing m stream
 list_text m stream = refl
 
-pub where_text : (m : ℕ) (stream : List ℕ) → whole_text (From 0) m stream ≡ whole_where m stream
+pub where_text : (m : ℕ) (stream : List ℕ) → whole_text (Some 0) m stream ≡ whole_where m stream
 where_text m stream = refl
 
 -- ---- Bytes that are not below a limit: digits are no spaces, and no byte of a line but the last is a line's end

@@ -9,6 +9,7 @@ use native.Mathlib.Omega.{arith}
 use lib.Dec.{ltb}
 use lib.ListN.{length, get_or, take, drop, length-take}
 use lib.Seq.{get_or-take, get_or-drop, length-take-le}
+use Rattle.std.specs.Prelude.{None}
 use Rattle.reading.specs.Answer as reading
 use Rattle.reading.specs.Answer.{row}
 use Rattle.reading.specs.Reading.{First, stop, says, frame_length}
@@ -28,9 +29,8 @@ use Rattle.stream.proofs.Loop as loop
 use Rattle.lines.specs.Lines.{frame_line, frame_line_at, line, refusal_line, lines_of}
 use Rattle.lines.specs.Put.{line_by}
 use Rattle.lines.proofs.Rows.{line_of, line_of_row}
-use Rattle.listing.specs.Numbering.{lead, text_of}
-use Rattle.listing.specs.declared.numbering.Numbering.{Numbering}
-use Rattle.listing.specs.declared.numbering.Numbering.TheVariants.{Off}
+use Rattle.listing.specs.Numbering.{Numbering, lead, text_of}
+use Rattle.std.specs.Prelude.{None}
 use Rattle.listing.proofs.Numberings.{no_line, one_line}
 
 -- the line of what is said
@@ -122,4 +122,4 @@ module _ (n : Numbering) {before : List ℕ} {start end : ℕ} {input after : Li
   pub turn_says : asks_for_more r.reply ≡ false → text_of n (answered said) ≡ lead n ++ line_by r.reply input after
   turn_says answers =
       loop.answers (loop.begin before start end input good) steps answers
-      (λ a e. one_line n a e ∙ ap (λ (l : List ℕ). lead n ++ l) (sym (one_line Off a e) ∙ line_is (steps.moves good)))
+      (λ a e. one_line n a e ∙ ap (λ (l : List ℕ). lead n ++ l) (sym (one_line None a e) ∙ line_is (steps.moves good)))

@@ -1,6 +1,6 @@
 -- What one call of the listing shows, and that it is the listing's definition.
 -- Assumes nothing.
-use Rattle.std.specs.Prelude.{ℕ, ◌+◌, ◌-◌, ◌≤◌, ◌≡◌, Bool, true, false, List, length}
+use Rattle.std.specs.Prelude.{Result, Ok, Err, ℕ, ◌+◌, ◌-◌, ◌≤◌, ◌≡◌, Bool, true, false, List, length}
 use Rattle.base.specs.Parts.{pasted}
 use Rattle.reading.specs.Call.{call}
 use Rattle.reading.specs.History.{answered}
@@ -9,9 +9,8 @@ use Rattle.refusals.specs.declared.Refusal.TheVariants.{BadState, PositionRange}
 use Rattle.stream.specs.Places.{held_in}
 use Rattle.stream.specs.Step.{is_span, Steps}
 use Rattle.lines.specs.Put.{Puts}
-use Rattle.listing.specs.Numbering.{text_of, room_for, is_countable}
+use Rattle.listing.specs.Numbering.{Numbering, text_of, room_for, is_countable}
 use Rattle.listing.specs.Listing.{Listing, list_of}
-use Rattle.listing.specs.declared.numbering.Numbering.{Numbering}
 use Rattle.listing.specs.declared.Turn.{Turn}
 use Rattle.listing.specs.declared.Listed.{Listed}
 use Rattle.listing.specs.declared.Status.{Status}
@@ -40,15 +39,12 @@ pub record Fills (m : ℕ) (l : Listing) (input out places outAfter : List ℕ) 
   pub written_in : r.written ≤ length out
   pub buffer : outAfter ≡ pasted out 0 l.lines
 
--- a refusal that takes, writes and changes nothing
-abbrev pub unchanged : ℕ → ℕ → Numbering → Refusal → Listed
-unchanged start end n refusal = record { start = start; end = end; numbering = n; taken = 0; written = 0; status = status.Refused refusal }
-
--- first what is not a valid state is refused, and nothing is changed; then a stream whose bytes can't be numbered, in the same way; else the buffer is
+-- first what is not a valid state is refused, and then a stream whose bytes can't be numbered: nothing is taken, written or changed; else the buffer is
 -- filled with as many lines as there is room for. The limit of a frame is the number of places
-pub record Lists (before : List ℕ) (start end : ℕ) (n : Numbering) (input out places outAfter : List ℕ) (r : Listed) : Type 0 where
-  pub refuses : is_span (length before) start end ≡ false → (r ≡ unchanged start end n BadState) × ((places ≡ before) × (outAfter ≡ out))
+pub record Lists (before : List ℕ) (start end : ℕ) (n : Numbering) (input out places outAfter : List ℕ) (r : Result Listed Refusal) : Type 0 where
+  pub refuses : is_span (length before) start end ≡ false → (r ≡ Err BadState) × ((places ≡ before) × (outAfter ≡ out))
   pub beyond : is_span (length before) start end ≡ true → is_countable n (end - start) (length input) ≡ false
-      → (r ≡ unchanged start end n PositionRange) × ((places ≡ before) × (outAfter ≡ out))
+      → (r ≡ Err PositionRange) × ((places ≡ before) × (outAfter ≡ out))
   pub fills : is_span (length before) start end ≡ true → is_countable n (end - start) (length input) ≡ true
-      → Fills (length before) (list_of (length before) n (held_in before start end) input (length out)) input out places outAfter r
+      → (l : Listed) × ((r ≡ Ok l)
+      × Fills (length before) (list_of (length before) n (held_in before start end) input (length out)) input out places outAfter l)

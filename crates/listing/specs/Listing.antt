@@ -6,8 +6,7 @@ use Rattle.reading.specs.Answer.{Answer}
 use Rattle.reading.specs.Reading.{reading}
 use Rattle.reading.specs.Call.{call}
 use Rattle.lines.specs.Lines.{line}
-use Rattle.listing.specs.Numbering.{lead, past, room_for}
-use Rattle.listing.specs.declared.numbering.Numbering.{Numbering}
+use Rattle.listing.specs.Numbering.{Numbering, lead, past, room_for}
 
 pub record Listing : Type 0 where
   -- the bytes written

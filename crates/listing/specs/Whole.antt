@@ -4,8 +4,7 @@ use Rattle.std.specs.Prelude.{ℕ, Bool, true, false, not, List, [], ◌∷◌, 
 use Rattle.reading.specs.Reading.{reading}
 use Rattle.reading.specs.Positions.{behind, numbered}
 use Rattle.lines.specs.Lines.{lines_of, held_line, leading}
-use Rattle.listing.specs.Numbering.{past, numbered_lines, text_of, last_line}
-use Rattle.listing.specs.declared.numbering.Numbering.{Numbering}
+use Rattle.listing.specs.Numbering.{Numbering, past, numbered_lines, text_of, last_line}
 
 -- all that the program list writes for an input
 abbrev pub whole_listing : ℕ → List ℕ → List ℕ

@@ -1,14 +1,16 @@
 // The lines of the answers to an input, as many as a buffer that the caller lends has room for, with or without positions before them.
 #![tactic(auto)]
 
-pub mod numbering;
+mod numbering;
 
 ghost use Rattle.std.specs.Prelude.{◌≡◌, true, ◌+◌, ◌-◌, ◌≤◌, length};
 ghost use Rattle.stream.specs.Step.{is_span};
+ghost use Rattle.stream.specs.Places.{held_in};
 ghost use Rattle.listing.specs.Numbering.{room_for, is_countable, last_line_of};
-ghost use Rattle.listing.specs.Fill.{Turns, Lists, unchanged};
+ghost use Rattle.listing.specs.Listing.{list_of};
+ghost use Rattle.listing.specs.Fill.{Turns, Fills, Lists};
 
-use crate::numbering::{Numbering, is_countable, moved_on, put_lead, room_for};
+use crate::numbering::{is_countable, moved_on, put_lead, room_for};
 use base::fits;
 use lines::line::{put_held, put_line};
 use refusals::Refusal;
@@ -21,8 +23,6 @@ pub enum Status {
     More,
     // The buffer has no room for the longest line.
     Full,
-    // Nothing was changed.
-    Refused(Refusal),
 }
 
 // Where the held bytes stand now, the numbering of the next line, how many bytes of the input were taken, and how many were written.
@@ -30,7 +30,7 @@ pub enum Status {
 pub struct Listed {
     pub start: usize,
     pub end: usize,
-    pub numbering: Numbering,
+    pub numbering: Option<u64>,
     pub taken: usize,
     pub written: usize,
     pub status: Status,
@@ -47,7 +47,7 @@ fn list_one(
     places: &mut [u8],
     start: usize,
     end: usize,
-    numbering: Numbering,
+    numbering: Option<u64>,
     input: &[u8],
     out: &mut [u8],
     at: usize,
@@ -70,12 +70,12 @@ fn fill(
     places: &mut [u8],
     start: usize,
     end: usize,
-    numbering: Numbering,
+    numbering: Option<u64>,
     input: &[u8],
     out: &mut [u8],
 ) -> Listed
     requires { (is_span (length places.old) start end ≡ true) × (is_countable numbering (end - start) (length input.now) ≡ true) }
-    ensures { Lists places.old start end numbering input.now out.old places.new out.new result }
+    ensures { Fills (length places.old) (list_of (length places.old) numbering (held_in places.old start end) input.now (length out.old)) input.now out.old places.new out.new result }
 {
     let held = end - start;
     let room = room_for(numbering);
@@ -113,42 +113,29 @@ fn fill(
     }
 }
 
-// Nothing is taken, written or changed.
-fn stay(start: usize, end: usize, numbering: Numbering, refusal: Refusal) -> Listed
-    ensures { result ≡ unchanged start end numbering refusal }
-{
-    Listed {
-        start,
-        end,
-        numbering,
-        taken: 0,
-        written: 0,
-        status: Status::Refused(refusal),
-    }
-}
-
-// The lines of the answers to the held bytes and then the input.
+// The lines of the answers to the held bytes and then the input. A refusal takes, writes and changes nothing. Where the held bytes stand is passed as
+// `stream::step::step_in` takes it.
 pub fn list_in(
     places: &mut [u8],
     start: usize,
     end: usize,
-    numbering: Numbering,
+    numbering: Option<u64>,
     input: &[u8],
     out: &mut [u8],
-) -> Listed
+) -> Result<Listed, Refusal>
     ensures { Lists places.old start end numbering input.now out.old places.new out.new result }
 {
     if !is_span(places.len(), start, end) {
-        return stay(start, end, numbering, Refusal::BadState);
+        return Err(Refusal::BadState);
     }
     if !is_countable(numbering, end - start, input.len()) {
-        return stay(start, end, numbering, Refusal::PositionRange);
+        return Err(Refusal::PositionRange);
     }
-    fill(places, start, end, numbering, input, out)
+    Ok(fill(places, start, end, numbering, input, out))
 }
 
 // The last line, of the held count, at the front of a buffer. Answers how many bytes were written: none where there is no room for the longest line.
-pub fn list_last(numbering: Numbering, held: u8, out: &mut [u8]) -> usize
+pub fn list_last(numbering: Option<u64>, held: u8, out: &mut [u8]) -> usize
     ensures { ((result, out.new) ≡ last_line_of numbering held out.old) × (result ≤ room_for numbering) }
 {
     if fits(out.len(), 0, room_for(numbering)) {

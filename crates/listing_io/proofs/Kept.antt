@@ -10,27 +10,30 @@ use borrow.Author.Tests.{le-leb}
 use lib.Dec.{leb}
 use lib.ListN.{length, take, drop, length-drop}
 use lib.Seq.{drop-drop}
+use Rattle.std.specs.Prelude.{Ok}
 use Rattle.base.proofs.Tests.{by_test}
 use Rattle.reading.specs.Reading.{Reading, reading}
 use Rattle.stream.specs.Places.{held_in}
 use Rattle.stream.specs.Step.{is_span}
 use Rattle.stream.proofs.Loop.{unread_is}
-use Rattle.refusals.specs.declared.Refusal.TheVariants.{PositionRange}
-use Rattle.listing.specs.Numbering.{past, is_countable}
+use Rattle.listing.specs.Numbering.{Numbering, past}
 use Rattle.listing.specs.Listing.{Listing, list_of}
-use Rattle.listing.specs.Fill.{Fills, Lists, status_of, unchanged}
-use Rattle.listing.specs.declared.numbering.Numbering.{Numbering}
+use Rattle.listing.specs.Fill.{Fills, Lists, status_of}
 use Rattle.listing.specs.declared.Listed.{Listed}
-use Rattle.listing.proofs.Filled.{list_fits}
+use Rattle.listing.specs.declared.Status.{Status}
+use Rattle.listing.specs.declared.Status.TheVariants.{More, Full}
+use Rattle.listing.proofs.Filled.{listed_fills}
 use Rattle.listing.proofs.Laws.{Text, text_begin, text_offer, text_code, last, whole, still_few}
-use Rattle.listing_io.specs.State.{Sound, Leaves, is_last, next_after}
-use Rattle.listing_io.specs.declared.Next.{Next}
-use Rattle.listing_io.specs.declared.Next.TheVariants.{Read, End, ReadFailed, WriteFailed, Unnumbered}
+use Rattle.listing_io.specs.State.{Sound, Leaves}
 
 pub is_span_lem : {m start end : ℕ} → Sound m start end → is_span m start end ≡ true
 is_span_lem {m} {start} {end} s =
     (and-eq-true_iff (leb 4 m) (leb start end && leb end m)).1
     (le-leb 4 m s.four, (and-eq-true_iff (leb start end) (leb end m)).1 (le-leb start end s.ordered, le-leb end m s.inside))
+
+abbrev asks_more : Status → Bool
+asks_more More = true
+asks_more Full = false
 
 pub record Kept (before out₀ : List ℕ) (start end : ℕ) (n : Numbering) (piece places out : List ℕ) (from to : ℕ) (now : Numbering) (taken : ℕ) : Type 0 where
   pub sound : Sound (length before) from to
@@ -54,27 +57,10 @@ begin {before} {start = start} {end} n piece s =
 
 -- what is lent of a piece is all of it that is not taken
 pub lent : {places out places' out' : List ℕ} {from to : ℕ} {now : Numbering} {r : Listed} (piece : List ℕ) (taken : ℕ)
-    → Lists places from to now (take (length piece - taken) (drop taken piece)) out places' out' r → Lists places from to now (drop taken piece) out places' out' r
+    → Lists places from to now (take (length piece - taken) (drop taken piece)) out places' out' (Ok r)
+    → Lists places from to now (drop taken piece) out places' out' (Ok r)
 lent {places} {out} {places'} {out'} {from} {to} {now} {r} piece taken =
-    subst (λ (l : List ℕ). Lists places from to now l out places' out' r) (unread_is piece taken)
-
--- another read does not come next: nothing is said of the held bytes
-abbrev reads : Next → Bool
-reads Read = true
-reads End = false
-reads ReadFailed = false
-reads WriteFailed = false
-reads Unnumbered = false
-
-failed≢read : WriteFailed ≡ Read → ⊥
-failed≢read e = true≢false (sym (ap reads e))
-
-refused≢read : Unnumbered ≡ Read → ⊥
-refused≢read e = true≢false (sym (ap reads e))
-
-pub not_listed : {before : List ℕ} {start end from to : ℕ} {n now : Numbering} {piece places : List ℕ} → Sound (length before) from to
-    → Leaves before start end n piece places (record { start = from; end = to; numbering = now; next = WriteFailed })
-not_listed s = record { sound = s; tail_is = λ e. absurd (failed≢read e); number_is = λ e. absurd (failed≢read e) }
+    subst (λ (l : List ℕ). Lists places from to now l out places' out' (Ok r)) (unread_is piece taken)
 
 module _ {before out₀ : List ℕ} {start end : ℕ} {n : Numbering} {piece places out : List ℕ} {from to : ℕ} {now : Numbering} {taken : ℕ}
     (k : Kept before out₀ start end n piece places out from to now taken) where
@@ -92,24 +78,24 @@ module _ {before out₀ : List ℕ} {start end : ℕ} {n : Numbering} {piece pla
   now_carried = subst (λ (m : ℕ). Text m n stream (held_in places from to) unread now k.text) (sym k.places_size) k.carried
 
   module _ {places' out' : List ℕ} {r : Listed} (same : length places' ≡ length places) (same_out : length out' ≡ length out)
-      (lists : Lists places from to now unread out places' out' r) where
+      (lists : Lists places from to now unread out places' out' (Ok r)) where
     abbrev l : Listing
     l = list_of (length places) now (held_in places from to) unread (length out)
 
-    fits : (r.taken ≤ length unread) × ((r.written ≤ length out) × ((r.start ≤ r.end) × (r.end ≤ length places)))
-    fits = list_fits lists now_sound.ordered now_sound.inside
+    filled : Fills (length places) l unread out places' out' r
+    filled = (listed_fills lists).1
 
     pub sound' : Sound (length before) r.start r.end
     sound' =
         record {
           four = k.sound.four;
-          ordered = fits.1.1.0;
-          inside = omega (arith, fits.1.1.1, k.places_size);
+          ordered = filled.ordered;
+          inside = omega (arith, filled.inside, k.places_size);
           few = omega (arith, still_few same now_sound.ordered now_sound.inside now_sound.few lists, k.places_size);
         }
 
     pub takes : taken + r.taken ≤ length piece
-    takes = omega (arith, fits.0, length-drop taken piece, k.taken_in)
+    takes = omega (arith, filled.taken_in, length-drop taken piece, k.taken_in)
 
     pub places_kept : length places' ≡ length before
     places_kept = same ∙ k.places_size
@@ -117,18 +103,11 @@ module _ {before out₀ : List ℕ} {start end : ℕ} {n : Numbering} {piece pla
     pub out_kept : length out' ≡ length out₀
     out_kept = same_out ∙ k.out_size
 
-    -- what is not refused is filled
-    filled_by : {G : Type 0} → ((unchanged from to now PositionRange).status ≡ r.status → G) → (Fills (length places) l unread out places' out' r → G) → G
-    filled_by refused go =
-        by_test (is_countable now (to - from) (length unread)) (λ enough. go (lists.fills (is_span_lem now_sound) enough))
-        (λ short. refused (ap (λ (x : Listed). x.status) (sym (lists.beyond (is_span_lem now_sound) short).0)))
-
-    pub again : is_last r.status ≡ false → Kept before out₀ start end n piece places' out' r.start r.end r.numbering (taken + r.taken)
-    again goes =
+    -- as a part leaves it, whether more of the piece is to come or not
+    pub again : Kept before out₀ start end n piece places' out' r.start r.end r.numbering (taken + r.taken)
+    again =
         let text' = k.text ++ take r.written out' in
         let held' = held_in places' r.start r.end in
-        filled_by (λ e. absurd (true≢false (ap is_last e ∙ goes)))
-        (λ filled.
         record {
           sound = sound';
           taken_in = takes;
@@ -138,28 +117,21 @@ module _ {before out₀ : List ℕ} {start end : ℕ} {n : Numbering} {piece pla
           carried = subst (λ (m : ℕ). Text m n stream held' (drop (taken + r.taken) piece) r.numbering text') k.places_size
               (subst (λ (x : List ℕ). Text (length places) n stream held' x r.numbering text') (drop-drop r.taken taken piece)
               (text_code filled unread (length out) refl now_carried));
-        })
+        }
 
     -- the listing asked for more: all is listed, and what is held is the tail
-    asked : Fills (length places) l unread out places' out' r → is_last r.status ≡ true → l.asks ≡ true
-    asked filled ended = by_test l.asks (λ q. q) (λ q. absurd (true≢false (sym ended ∙ ap is_last (filled.status_is ∙ ap status_of q))))
+    asked : r.status ≡ More → l.asks ≡ true
+    asked ended = by_test l.asks (λ q. q) (λ q. absurd (true≢false (sym (ap asks_more ended) ∙ ap asks_more (filled.status_is ∙ ap status_of q))))
 
-    pub leaves : {next : Next} → is_last r.status ≡ true → next ≡ next_after r.status
-        → Leaves before start end n piece places' (record { start = r.start; end = r.end; numbering = r.numbering; next = next })
-    leaves {next} ended e =
-        filled_by
-        (λ refused.
-        let none : next ≡ Read → ⊥ = λ reads. refused≢read (ap next_after refused ∙ sym e ∙ reads) in
-        record { sound = sound'; tail_is = λ reads. absurd (none reads); number_is = λ reads. absurd (none reads) })
-        (λ filled.
-        let asks = asked filled ended in
+    pub leaves : r.status ≡ More → Leaves before start end n piece places' (record { start = r.start; end = r.end; numbering = r.numbering })
+    leaves ended =
+        let asks = asked ended in
         let all = whole unread (length out) now_carried asks in
         let at = ap (λ (m : ℕ). reading m stream) k.places_size in
         record {
           sound = sound';
-          tail_is = λ _. filled.held_is ∙ ap (λ (x : Reading). x.tail) (sym all ∙ at);
-          number_is = λ _.
-              filled.next_is
+          tail_is = filled.held_is ∙ ap (λ (x : Reading). x.tail) (sym all ∙ at);
+          number_is = filled.next_is
               ∙ (last unread (length out) now_carried asks).number
               ∙ ap (λ (x : Reading). past n x.answers) (sym all ∙ at);
-        })
+        }

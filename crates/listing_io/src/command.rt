@@ -2,9 +2,12 @@
 ghost use Rattle.std.specs.Prelude.{◌≡◌, ◌≤◌};
 ghost use Rattle.listing_io.specs.State.{status_at};
 
-use crate::{Ended, list_input};
-use program::{Asked, Console, Input, Source, after_print, open, print, read_arguments, say};
+use crate::{Stopped, list_input};
+use program::{
+    Asked, Console, Failed, Input, Source, after_print, open, print, read_arguments, say,
+};
 
+// A read or a write that fails is told there.
 fn tell_unnumbered(console: &Console<'_>, input: &[u8]) {
     say(console, console.name);
     say(console, b": ");
@@ -12,25 +15,13 @@ fn tell_unnumbered(console: &Console<'_>, input: &[u8]) {
     say(console, b": more bytes than there are positions\n");
 }
 
-// What is not told yet: a read or a write that fails is told there.
-fn tell_end(console: &Console<'_>, ended: Ended, input: &[u8]) {
-    match ended {
-        Ended::Listed(_) => {}
-        Ended::ReadFailed => {}
-        Ended::WriteFailed => {}
-        Ended::Unnumbered => tell_unnumbered(console, input),
-    }
-}
-
-fn status_of(ended: Ended) -> u8
+fn status_of(ended: Result<u8, Stopped>) -> u8
     ensures value { result ≡ status_at ended }
     ensures upper_bound { result ≤ 2 }
 {
     match ended {
-        Ended::Listed(_) => 0,
-        Ended::ReadFailed => 1,
-        Ended::WriteFailed => 1,
-        Ended::Unnumbered => 1,
+        Ok(_) => 0,
+        Err(_) => 1,
     }
 }
 
@@ -38,7 +29,9 @@ fn list_from(console: &Console<'_>, mut input: Input<'_>, is_numbered: bool) -> 
     ensures { result ≤ 2 }
 {
     let ended = list_input(console, &mut input, is_numbered);
-    tell_end(console, ended, input.name);
+    if matches!(ended, Err(Stopped::Unnumbered)) {
+        tell_unnumbered(console, input.name);
+    }
     status_of(ended)
 }
 
@@ -61,7 +54,7 @@ fn list_file(console: &Console<'_>, is_numbered: bool, path: &[u8]) -> u8
     }
 }
 
-fn print_purpose(console: &Console<'_>, is_numbered: bool) -> bool {
+fn print_purpose(console: &Console<'_>, is_numbered: bool) -> Result<(), Failed> {
     if is_numbered {
         return print(
             console,
@@ -93,10 +86,8 @@ as it is known:
     )
 }
 
-fn print_help(console: &Console<'_>, is_numbered: bool) -> bool {
-    if !print_purpose(console, is_numbered) {
-        return false;
-    }
+fn print_help(console: &Console<'_>, is_numbered: bool) -> Result<(), Failed> {
+    print_purpose(console, is_numbered)?;
     print(
         console,
         b"
@@ -112,11 +103,9 @@ pub(crate) fn command(console: &Console<'_>, is_numbered: bool, usage: &[u8], ve
     ensures { result ≤ 2 }
 {
     let mut word = [0u8; 4096];
-    let arguments = read_arguments(console, usage, &mut word);
-    let asked = arguments.asked;
-    match asked {
+    match read_arguments(console, usage, &mut word) {
         Asked::Input => list_standard(console, is_numbered),
-        Asked::File => list_file(console, is_numbered, &word[..arguments.len]),
+        Asked::File(path) => list_file(console, is_numbered, path),
         Asked::Help => after_print(print_help(console, is_numbered)),
         Asked::Version => after_print(print(console, version)),
         Asked::Failed => 1,

@@ -5,80 +5,47 @@
 
 mod command;
 
-ghost use Rattle.std.specs.Prelude.{◌≡◌, ◌≤◌, ◌<◌, length};
+ghost use Rattle.std.specs.Prelude.{◌≡◌, ◌≤◌, ◌<◌, length, Ok, IfOk, IfSome};
 ghost use Rattle.reading.specs.Reading.{limit};
 ghost use Rattle.listing.specs.Fill.{Lists};
-ghost use Rattle.listing_io.specs.State.{Sound, Leaves, is_last, next_after, Ends, first_number};
+ghost use Rattle.listing_io.specs.State.{Sound, Leaves, first_number};
 
 use lines::line::{LONGEST, LONGEST_POSITION};
-use listing::numbering::Numbering;
 use listing::{Listed, Status, list_in, list_last};
-use program::{Console, Input, print, read_some};
+use program::{Console, Failed, Input, print, read_some};
+use refusals::Refusal;
 use stream::LIMIT;
 
 // How many bytes are read, or written, at a time.
 const ROOM: usize = 65536;
 
-// How a listing ended.
+// Why a listing stopped before the end of the input, or before its last line was written.
 #[derive(Clone, Copy)]
-enum Ended {
-    // All of the input is listed, with the line of this many held bytes.
-    Listed(u8),
-    // The input was not read to its end.
-    ReadFailed,
-    // The output was not written.
-    WriteFailed,
+enum Stopped {
+    // By a read or a write. The cause is told by then.
+    Failed(Failed),
     // The input has more bytes than there are positions.
     Unnumbered,
 }
 
-// What comes next.
-#[derive(Clone, Copy)]
-enum Next {
-    // Another read.
-    Read,
-    // The input has ended: the last line.
-    End,
-    ReadFailed,
-    WriteFailed,
-    Unnumbered,
+impl From<Failed> for Stopped {
+    fn from(failed: Failed) -> Stopped {
+        Stopped::Failed(failed)
+    }
 }
 
-// Where the held bytes stand, the numbering of the next line, and what comes next.
+impl From<Refusal> for Stopped {
+    fn from(_refusal: Refusal) -> Stopped {
+        Stopped::Unnumbered
+    }
+}
+
+// Where the held bytes stand, and the numbering of the next line.
 #[derive(Clone, Copy)]
 struct State {
     start: usize,
     end: usize,
-    numbering: Numbering,
-    next: Next,
-}
-
-// The lines of a part of a piece, and whether they were written.
-#[derive(Clone, Copy)]
-struct Part {
-    listed: Listed,
-    is_written: bool,
-}
-
-fn is_last(status: Status) -> bool
-    ensures { result ≡ is_last status }
-{
-    match status {
-        Status::More => true,
-        Status::Full => false,
-        Status::Refused(_) => true,
-    }
-}
-
-// What comes after a piece, of which no line is to come.
-fn next_after(status: Status) -> Next
-    ensures { result ≡ next_after status }
-{
-    match status {
-        Status::More => Next::Read,
-        Status::Full => Next::WriteFailed,
-        Status::Refused(_) => Next::Unnumbered,
-    }
+    numbering: Option<u64>,
 }
 
 // One turn: as many lines as the buffer has room for, and a write of them.
@@ -86,121 +53,64 @@ fn list_part(
     console: &Console<'_>,
     places: &mut [u8],
     out: &mut [u8],
-    start: usize,
-    end: usize,
-    numbering: Numbering,
+    state: State,
     input: &[u8],
-) -> Part
-    requires { Sound (length places.old) start end }
-    ensures { Lists places.old start end numbering input.now out.old places.new out.new result.listed }
+) -> Result<Listed, Stopped>
+    requires { Sound (length places.old) state.start state.end }
+    ensures { IfOk result (λ listed. Lists places.old state.start state.end state.numbering input.now out.old places.new out.new (Ok listed)) }
 {
-    let listed = list_in(places, start, end, numbering, input, out);
-    let is_written = print(console, &out[..listed.written]);
-    Part { listed, is_written }
+    let listed = list_in(places, state.start, state.end, state.numbering, input, out)?;
+    print(console, &out[..listed.written])?;
+    Ok(listed)
 }
 
-// All lines of a piece.
+// All lines of a piece. The loop counts its turns, to a number that no run uses up.
 fn list_piece(
     console: &Console<'_>,
     places: &mut [u8],
     out: &mut [u8],
-    start: usize,
-    end: usize,
-    numbering: Numbering,
+    before: State,
     piece: &[u8],
-) -> State
-    requires { Sound (length places.old) start end }
-    ensures { Leaves places.old start end numbering piece.now places.new result }
+) -> Result<State, Stopped>
+    requires { Sound (length places.old) before.start before.end }
+    ensures { IfOk result (λ state. Leaves places.old before.start before.end before.numbering piece.now places.new state) }
 {
-    let mut from = start;
-    let mut to = end;
-    let mut number = numbering;
+    let mut state = before;
     let mut taken = 0;
-    let mut turns = u64::MAX;
-    while 0 < turns {
-        turns -= 1;
-        let part = list_part(console, places, out, from, to, number, &piece[taken..]);
-        let listed = part.listed;
-        from = listed.start;
-        to = listed.end;
-        number = listed.numbering;
+    for _ in 0..u64::MAX {
+        let listed = list_part(console, places, out, state, &piece[taken..])?;
+        state = State {
+            start: listed.start,
+            end: listed.end,
+            numbering: listed.numbering,
+        };
         taken += listed.taken;
-        if !part.is_written {
-            return State {
-                start: from,
-                end: to,
-                numbering: number,
-                next: Next::WriteFailed,
-            };
-        }
-        let status = listed.status;
-        if is_last(status) {
-            return State {
-                start: from,
-                end: to,
-                numbering: number,
-                next: next_after(status),
-            };
+        match listed.status {
+            Status::More => return Ok(state),
+            Status::Full => {}
         }
     }
-    State {
-        start: from,
-        end: to,
-        numbering: number,
-        next: Next::WriteFailed,
-    }
+    Err(Stopped::Failed(Failed::Write))
 }
 
-// One read, and the lines of what came.
+// One read, and the lines of what came: none where the input has ended.
 fn list_read(
     console: &Console<'_>,
     input: &mut Input<'_>,
     places: &mut [u8],
     out: &mut [u8],
     piece: &mut [u8],
-    start: usize,
-    end: usize,
-    numbering: Numbering,
-) -> State
-    requires { Sound (length places.old) start end }
-    ensures { Sound (length places.old) result.start result.end }
+    state: State,
+) -> Result<Option<State>, Stopped>
+    requires { Sound (length places.old) state.start state.end }
+    ensures { IfOk result (λ next. IfSome next (λ state. Sound (length places.old) state.start state.end)) }
 {
-    let came = read_some(console, input, piece);
-    if came.has_failed {
-        return State {
-            start,
-            end,
-            numbering,
-            next: Next::ReadFailed,
-        };
+    let count = read_some(console, input, piece)?;
+    if count == 0 {
+        return Ok(None);
     }
-    if came.count == 0 {
-        return State {
-            start,
-            end,
-            numbering,
-            next: Next::End,
-        };
-    }
-    list_piece(
-        console,
-        places,
-        out,
-        start,
-        end,
-        numbering,
-        &piece[..came.count],
-    )
-}
-
-fn is_read(next: Next) -> bool {
-    match next {
-        Next::Read => true,
-        Next::End => false,
-        Next::ReadFailed => false,
-        Next::WriteFailed => false,
-        Next::Unnumbered => false,
-    }
+    let next = list_piece(console, places, out, state, &piece[..count])?;
+    Ok(Some(next))
 }
 
 // Reads to the end of the input.
@@ -210,82 +120,55 @@ fn list_reads(
     places: &mut [u8],
     out: &mut [u8],
     piece: &mut [u8],
-    numbering: Numbering,
-) -> State
+    numbering: Option<u64>,
+) -> Result<State, Stopped>
     requires { 4 ≤ length places.old }
-    ensures { Sound (length places.old) result.start result.end }
+    ensures { IfOk result (λ state. Sound (length places.old) state.start state.end) }
 {
-    let mut start = 0;
-    let mut end = 0;
-    let mut number = numbering;
-    let mut turns = u64::MAX;
-    while 0 < turns {
-        turns -= 1;
-        let state = list_read(console, input, places, out, piece, start, end, number);
-        let next = state.next;
-        if !is_read(next) {
-            return state;
+    let mut state = State {
+        start: 0,
+        end: 0,
+        numbering,
+    };
+    for _ in 0..u64::MAX {
+        match list_read(console, input, places, out, piece, state)? {
+            Some(next) => state = next,
+            None => return Ok(state),
         }
-        start = state.start;
-        end = state.end;
-        number = state.numbering;
     }
-    State {
-        start,
-        end,
-        numbering: number,
-        next: Next::ReadFailed,
-    }
+    Err(Stopped::Failed(Failed::Read))
 }
 
-fn write_last(console: &Console<'_>, numbering: Numbering, held: u8) -> bool {
+// The last line, where the input has ended.
+fn write_last(console: &Console<'_>, numbering: Option<u64>, held: u8) -> Result<(), Failed> {
     let mut line = [0u8; LONGEST_POSITION + LONGEST];
     let n = list_last(numbering, held, &mut line);
     print(console, &line[..n])
 }
 
-// The last line, where the input has ended.
-fn list_end(console: &Console<'_>, next: Next, numbering: Numbering, held: u8) -> Ended
-    requires { held < limit }
-    ensures { Ends result }
-{
-    match next {
-        Next::Read => Ended::ReadFailed,
-        Next::End => {
-            if write_last(console, numbering, held) {
-                Ended::Listed(held)
-            } else {
-                Ended::WriteFailed
-            }
-        }
-        Next::ReadFailed => Ended::ReadFailed,
-        Next::WriteFailed => Ended::WriteFailed,
-        Next::Unnumbered => Ended::Unnumbered,
-    }
-}
-
-// What stands before the first line.
-fn first_number(is_numbered: bool) -> Numbering
+// What stands before the first line: nothing, or the position of the first byte.
+fn first_number(is_numbered: bool) -> Option<u64>
     ensures { result ≡ first_number is_numbered }
 {
-    if is_numbered {
-        return Numbering::From(0);
-    }
-    Numbering::Off
+    is_numbered.then_some(0)
 }
 
-// Lists what the input yields.
-fn list_input(console: &Console<'_>, input: &mut Input<'_>, is_numbered: bool) -> Ended
-    ensures { Ends result }
+// Lists what the input yields. Answers how many bytes are held at its end.
+fn list_input(
+    console: &Console<'_>,
+    input: &mut Input<'_>,
+    is_numbered: bool,
+) -> Result<u8, Stopped>
+    ensures { IfOk result (λ held. held < limit) }
 {
     let mut places = [0u8; LIMIT];
     let mut out = [0u8; ROOM];
     let mut piece = [0u8; ROOM];
     let numbering = first_number(is_numbered);
-    let state = list_reads(console, input, &mut places, &mut out, &mut piece, numbering);
-    let next = state.next;
-    let number = state.numbering;
-    list_end(console, next, number, (state.end - state.start) as u8)
+    let state = list_reads(console, input, &mut places, &mut out, &mut piece, numbering)?;
+    let held = (state.end - state.start) as u8;
+    write_last(console, state.numbering, held)?;
+    Ok(held)
 }
 
 // The program list. Answers its status: 0 where everything was read and written, 1 where a file, a read or a write failed, 2 for bad usage.

@@ -6,53 +6,56 @@
 mod cuts;
 mod ended;
 mod feed;
+mod log;
 mod show;
 mod written;
 
-use base::{byte_at, part_of, wide};
-use feed::put_first;
-use show::text;
+use log::Log;
+use std::io;
+use std::io::{Read, Write};
 
-// The item at a place, and how many bytes the log of the entries so far has.
-fn item(stored: &[u8], log: &mut [u8], at: usize) -> usize {
-    let kind = byte_at(stored, 0);
-    let bytes = part_of(stored, 1, 255);
+// How much of the standard input is read.
+const MOST: u64 = 65536;
+
+fn heading(rt: &impl Print, text: &[u8]) -> io::Result<()> {
+    let mut out = io::writer(rt);
+    out.write_all(b"-- ")?;
+    out.write_all(text)?;
+    out.write_all(b"\n")
+}
+
+// An item; an entry goes to the log.
+fn item(rt: &impl Print, stored: &[u8], log: &mut Log) -> io::Result<()> {
+    let Some((&kind, bytes)) = stored.split_first() else {
+        return Ok(());
+    };
     match kind {
-        b'h' => {
-            text(b"-- ");
-            text(bytes);
-            text(b"\n");
-            at
+        b'h' => heading(rt, bytes),
+        b'w' => {
+            let (&which, frame) = bytes.split_first().unwrap_or((&0, &[]));
+            written::line(rt, which, frame, log)
         }
-        b'w' => written::line(byte_at(bytes, 0), part_of(bytes, 1, 255), log, at),
-        b'r' => {
-            cuts::line(bytes);
-            at
-        }
-        b'e' => {
-            ended::line(bytes);
-            at
-        }
-        _ => at,
+        b'r' => cuts::line(rt, bytes),
+        b'e' => ended::line(rt, bytes),
+        _ => Ok(()),
     }
 }
 
-fn items(all: &[u8], log: &mut [u8]) -> usize {
-    let mut at = put_first(log);
-    let mut from = 0;
-    while from < all.len() {
-        let start = from + 1;
-        let size = wide(all[from]);
-        at = item(part_of(all, start, size), log, at);
-        from = start + feed::least(size, all.len() - start);
+// The log of all entries.
+fn items(rt: &impl Print, all: &[u8]) -> io::Result<Log> {
+    let mut log = Log::new();
+    let mut rest = all;
+    while let Some((&size, behind)) = rest.split_first() {
+        let (stored, next) = behind.split_at(behind.len().min(usize::from(size)));
+        item(rt, stored, &mut log)?;
+        rest = next;
     }
-    at
+    Ok(log)
 }
 
-fn main() {
-    let mut buf = io::large_buffer();
-    let n = io::read_full(0, &mut buf);
-    let mut log = [0u8; 512];
-    let size = items(&buf[..n], &mut log);
-    cuts::line(part_of(&log, 0, size));
+fn main(rt: HostRuntime) -> io::Result<()> {
+    let mut input = Vec::new(rt.alloc());
+    rt.stdin().take(MOST).read_to_end(&mut input)?;
+    let log = items(&rt, &input)?;
+    cuts::line(&rt, log.as_slice())
 }

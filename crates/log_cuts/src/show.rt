@@ -1,31 +1,24 @@
-// Text, numbers and bytes on the standard output.
+// What is printed: bytes, and the number of an end.
+use refusals::{Refusal, row_of};
+use std::fmt;
 
-// The standard output.
-const STDOUT_FILENO: i32 = 1;
+// Bytes in hexadecimal.
+#[derive(Clone, Copy)]
+pub struct Hex<'a>(pub &'a [u8]);
 
-pub fn text(words: &[u8]) {
-    io::write_all(STDOUT_FILENO, words);
+impl fmt::Display for Hex<'_> {
+    fn fmt<W: fmt::Write>(&self, f: &mut fmt::Formatter<W>) -> fmt::Result {
+        for byte in self.0 {
+            write!(f, "{byte:02x}")?;
+        }
+        Ok(())
+    }
 }
 
-pub fn number(n: u64) {
-    io::print_decimal(STDOUT_FILENO, n);
-}
-
-pub fn wide64(b: u8) -> u64 {
-    b as u64
-}
-
-// Words, and then a number.
-pub fn labelled(words: &[u8], n: u64) {
-    text(words);
-    number(n);
-}
-
-// In hexadecimal.
-pub fn spelled(bytes: &[u8]) {
-    let mut i = 0;
-    while i < bytes.len() {
-        io::print_hex(STDOUT_FILENO, wide64(bytes[i]), 2);
-        i += 1;
+// The number of an end, which is 0 where what was read is a log.
+pub fn end_number(ending: Result<(), Refusal>) -> u8 {
+    match ending {
+        Ok(()) => 0,
+        Err(refusal) => row_of(refusal).number,
     }
 }

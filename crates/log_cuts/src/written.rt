@@ -1,10 +1,13 @@
 // Entries as they are written, and the log of them all.
-use crate::feed::{count, put_behind};
-use crate::show::{labelled, number, spelled, text, wide64};
+use crate::log::Log;
+use crate::show::Hex;
 use base::part_of;
 use log_writer::put_entry;
 use refusals::row_of;
-use writing::Written;
+use std::io;
+
+// No entry is longer.
+const LONGEST: usize = 72;
 
 // Both sides of the numbers of one group and of two, and the ends.
 fn seconds_of(which: u8) -> u32 {
@@ -14,56 +17,37 @@ fn seconds_of(which: u8) -> u32 {
         2 => 128,
         3 => 16383,
         4 => 16384,
-        _ => 4294967295,
+        _ => u32::MAX,
     }
 }
 
-fn show_written(written: Written, out: &[u8]) {
-    match written {
-        Written::Wrote(n) => spelled(part_of(out, 0, n)),
-        Written::Refused(why) => {
-            let row = row_of(why);
-            number(wide64(row.number));
+// The entry in so many bytes, or the number of the refusal. How many bytes it has; none where it is refused.
+fn show_in(rt: &impl Print, seconds: u32, frame: &[u8], room: usize) -> io::Result<usize> {
+    let mut space = [0u8; LONGEST];
+    let space = &mut space[..room.min(LONGEST)];
+    match put_entry(seconds, frame, space) {
+        Ok(n) => {
+            print!(rt; "{}", Hex(part_of(space, 0, n)))?;
+            Ok(n)
+        }
+        Err(refusal) => {
+            print!(rt; "{}", row_of(refusal).number)?;
+            Ok(0)
         }
     }
 }
 
-// In the last so many of these places.
-fn put_in(seconds: u32, frame: &[u8], space: &mut [u8], room: usize) -> Written {
-    let n = space.len();
-    if n < room {
-        return put_entry(seconds, frame, space);
-    }
-    let from = n - room;
-    put_entry(seconds, frame, &mut space[from..])
-}
-
-fn show_in(seconds: u32, frame: &[u8], room: usize) {
-    let mut space = [0u8; 72];
-    labelled(b", in ", room as u64);
-    text(b" bytes ");
-    show_written(put_in(seconds, frame, &mut space, room), &space);
-}
-
-fn show_asked(seconds: u32, frame: &[u8]) {
-    number(seconds as u64);
-    text(b" ");
-    spelled(frame);
-    text(b": ");
-}
-
-// One entry: as written where there is room, with one byte less, and in no bytes. How many bytes the log of all entries so far has.
-pub fn line(which: u8, frame: &[u8], log: &mut [u8], at: usize) -> usize {
+// One entry: as written where there is room, with one byte less, and in no bytes. It goes to the log of all entries.
+pub fn line(rt: &impl Print, which: u8, frame: &[u8], log: &mut Log) -> io::Result<()> {
     let seconds = seconds_of(which);
-    show_asked(seconds, frame);
-    let mut space = [0u8; 72];
-    let written = put_entry(seconds, frame, &mut space);
-    show_written(written, &space);
-    let n = count(written);
+    print!(rt; "{seconds} {}: ", Hex(frame))?;
+    let n = show_in(rt, seconds, frame, LONGEST)?;
     if 0 < n {
-        show_in(seconds, frame, n - 1);
+        print!(rt; ", in {} bytes ", n - 1)?;
+        show_in(rt, seconds, frame, n - 1)?;
     }
-    show_in(seconds, frame, 0);
-    text(b"\n");
-    put_behind(log, at, seconds, frame)
+    print!(rt; ", in 0 bytes ")?;
+    show_in(rt, seconds, frame, 0)?;
+    log.push(seconds, frame);
+    println!(rt)
 }

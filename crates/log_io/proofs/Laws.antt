@@ -9,10 +9,9 @@ use Rattle.kit_log.proofs.Reading.{goes_on}
 use Rattle.log_reader.specs.State.{state_of}
 use Rattle.log_reader.specs.declared.Reader.{Reader}
 use Rattle.log_io.specs.State.{Leaves}
-use Rattle.log_io.specs.declared.State.{State}
 
-pub state_on : {before : List ℕ} {reader : Reader} {piece places : List ℕ} {r : State} (stream : List ℕ) → Leaves before reader piece places r
-    → state_of before reader ≡ (reading stream).state → state_of places r.reader ≡ (reading (stream ++ piece)).state
+pub state_on : {before : List ℕ} {reader : Reader} {piece places : List ℕ} {r : Reader} (stream : List ℕ) → Leaves before reader piece places r
+    → state_of before reader ≡ (reading stream).state → state_of places r ≡ (reading (stream ++ piece)).state
 state_on {piece = piece} stream left before-is =
     left.state_is
     ∙ ap (λ (st : log.State). (read_from st piece).state) before-is

@@ -1,35 +1,23 @@
 // The arguments of the program that lists a log, what it reports on standard error, and its status.
 ghost use Rattle.std.specs.Prelude.{◌≡◌, ◌≤◌};
-ghost use Rattle.log_io.specs.State.{status_of, status_at};
+ghost use Rattle.log_io.specs.State.{status_at};
 
-use crate::{Ended, list_input};
-use log_reader::Ending;
-use program::{Asked, Console, Input, Source, after_print, open, print, read_arguments};
+use crate::{Stopped, list_input};
+use program::{Asked, Console, Failed, Input, Source, after_print, open, print, read_arguments};
 
-fn status_of(ending: Ending) -> u8
-    ensures { (result ≡ status_of ending) × (result ≤ 1) }
+fn status_at(listed: Result<(), Stopped>) -> u8
+    ensures { (result ≡ status_at listed) × (result ≤ 1) }
 {
-    match ending {
-        Ending::Log => 0,
-        Ending::Refused(_) => 1,
-    }
-}
-
-fn status_at(ended: Ended) -> u8
-    ensures { (result ≡ status_at ended) × (result ≤ 1) }
-{
-    match ended {
-        Ended::Listed(ending) => status_of(ending),
-        Ended::ReadFailed => 1,
-        Ended::WriteFailed => 1,
+    match listed {
+        Ok(()) => 0,
+        Err(_) => 1,
     }
 }
 
 fn list_from(console: &Console<'_>, mut input: Input<'_>) -> u8
     ensures { result ≤ 2 }
 {
-    let ended = list_input(console, &mut input);
-    status_at(ended)
+    status_at(list_input(console, &mut input))
 }
 
 fn list_standard(console: &Console<'_>) -> u8
@@ -51,7 +39,7 @@ fn list_file(console: &Console<'_>, path: &[u8]) -> u8
     }
 }
 
-fn print_help(console: &Console<'_>) -> bool {
+fn print_help(console: &Console<'_>) -> Result<(), Failed> {
     print(
         console,
         b"usage: log [FILE]
@@ -75,15 +63,13 @@ pub(crate) fn command(console: &Console<'_>) -> u8
     ensures { result ≤ 2 }
 {
     let mut word = [0u8; 4096];
-    let arguments = read_arguments(
+    match read_arguments(
         console,
         b"usage: log [FILE]; log --help says more\n",
         &mut word,
-    );
-    let asked = arguments.asked;
-    match asked {
+    ) {
         Asked::Input => list_standard(console),
-        Asked::File => list_file(console, &word[..arguments.len]),
+        Asked::File(path) => list_file(console, path),
         Asked::Help => after_print(print_help(console)),
         Asked::Version => after_print(print(console, b"log 0.8.0\n")),
         Asked::Failed => 1,

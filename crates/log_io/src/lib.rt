@@ -6,15 +6,17 @@
 
 mod command;
 
-ghost use Rattle.std.specs.Prelude.{◌≡◌, true, ◌*◌, ◌≤◌, length};
+ghost use Rattle.std.specs.Prelude.{◌≡◌, true, ◌*◌, ◌≤◌, length, IfOk};
 ghost use Rattle.reading.specs.Reading.{limit};
 ghost use Rattle.log_lines.specs.Text.{longest_entry};
 ghost use Rattle.log_reader.specs.State.{state_of, is_state};
-ghost use Rattle.log_io.specs.State.{next_by, next_after, Ready, Leaves, Ends};
+ghost use Rattle.log_io.specs.declared.Stopped.TheVariants as stopped;
+ghost use Rattle.log_io.specs.State.{Ready, Leaves, Ends};
 
-use log_lines::{Status, list_part, put_last};
-use log_reader::{Ending, Reader, end, reset};
-use program::{Console, Input, print, read_some};
+use log_lines::{Listed, list_part, put_last};
+use log_reader::{Reader, end, reset};
+use program::{Console, Failed, Input, print, read_some};
+use refusals::Refusal;
 use stream::LIMIT;
 
 // How many bytes are read at a time, and the buffer that has room for the lines of these.
@@ -25,50 +27,29 @@ const ROOM: usize = 65536;
 // The longest last line.
 const LAST: usize = 11;
 
-// How a listing ended.
+// Why a listing did not come to the end of a whole log.
 #[derive(Clone, Copy)]
-enum Ended {
-    // The last line is written: what it says.
-    Listed(Ending),
-    // The input was not read to its end.
-    ReadFailed,
-    // The output was not written.
-    WriteFailed,
+enum Stopped {
+    // A read or a write failed. The cause is told by then.
+    Failed(Failed),
+    // The log is refused, as the last line says, which is written.
+    Refused(Refusal),
 }
 
-// What comes next.
-#[derive(Clone, Copy)]
-enum Next {
-    // Another read.
-    Read,
-    // The input has ended, or the log is refused: the last line.
-    End,
-    ReadFailed,
-    WriteFailed,
-}
+impl From<Failed> for Stopped {
+    ghost from_gives = { λ failed result. result ≡ stopped.Failed failed };
 
-#[derive(Clone, Copy)]
-struct State {
-    reader: Reader,
-    next: Next,
-}
-
-fn next_by(status: Status) -> Next
-    ensures { result ≡ next_by status }
-{
-    match status {
-        Status::More => Next::Read,
-        Status::Refused(_) => Next::End,
+    fn from(failed: Failed) -> Stopped {
+        Stopped::Failed(failed)
     }
 }
 
-fn next_after(is_written: bool, status: Status) -> Next
-    ensures { result ≡ next_after is_written status }
-{
-    if is_written {
-        return next_by(status);
+impl From<Refusal> for Stopped {
+    ghost from_gives = { λ refusal result. result ≡ stopped.Refused refusal };
+
+    fn from(refusal: Refusal) -> Stopped {
+        Stopped::Refused(refusal)
     }
-    Next::WriteFailed
 }
 
 // All lines of a piece, and a write of them.
@@ -78,123 +59,65 @@ fn list_piece(
     out: &mut [u8],
     reader: Reader,
     piece: &[u8],
-) -> State
+) -> Result<Listed, Failed>
     requires { Ready places.old reader (length piece.now) (length out.old) }
-    ensures { Leaves places.old reader piece.now places.new result }
+    ensures { IfOk result (λ listed. Leaves places.old reader piece.now places.new listed.reader) }
 {
     let listed = list_part(places, reader, piece, out);
-    let is_written = print(console, &out[..listed.written]);
-    let status = listed.status;
-    let next = next_after(is_written, status);
-    let reader = listed.reader;
-    State { reader, next }
+    print(console, &out[..listed.written])?;
+    Ok(listed)
 }
 
-// One read, and the lines of what came.
-fn list_read(
-    console: &Console<'_>,
-    input: &mut Input<'_>,
-    places: &mut [u8],
-    out: &mut [u8],
-    piece: &mut [u8],
-    reader: Reader,
-) -> State
-    requires { Ready places.old reader (length piece.old) (length out.old) }
-    ensures { is_state places.new result.reader ≡ true }
-{
-    let came = read_some(console, input, piece);
-    if came.has_failed {
-        return State {
-            reader,
-            next: Next::ReadFailed,
-        };
-    }
-    if came.count == 0 {
-        return State {
-            reader,
-            next: Next::End,
-        };
-    }
-    list_piece(console, places, out, reader, &piece[..came.count])
-}
-
-fn is_read(next: Next) -> bool {
-    match next {
-        Next::Read => true,
-        Next::End => false,
-        Next::ReadFailed => false,
-        Next::WriteFailed => false,
-    }
-}
-
-// Reads to the end of the input, or to a refusal. The loop counts its turns down, from a number that no run uses up.
+// Reads to the end of the input, or to a refusal: a log that is refused is read no further. Answers where the reader stands then. The loop counts its
+// turns, to a number that no run uses up.
 fn list_reads(
     console: &Console<'_>,
     input: &mut Input<'_>,
     places: &mut [u8],
     out: &mut [u8],
     piece: &mut [u8],
-) -> State
+) -> Result<Reader, Failed>
     requires { (limit ≤ length places.old) × (longest_entry * length piece.old ≤ length out.old) }
-    ensures { is_state places.new result.reader ≡ true }
+    ensures { IfOk result (λ reader. is_state places.new reader ≡ true) }
 {
     let mut reader = reset();
-    let mut turns = u64::MAX;
-    while 0 < turns {
-        turns -= 1;
-        let state = list_read(console, input, places, out, piece, reader);
-        let next = state.next;
-        if !is_read(next) {
-            return state;
+    for _ in 0..u64::MAX {
+        let count = read_some(console, input, piece)?;
+        if count == 0 {
+            return Ok(reader);
         }
-        reader = state.reader;
+        let listed = list_piece(console, places, out, reader, &piece[..count])?;
+        reader = listed.reader;
+        if listed.status.is_err() {
+            return Ok(reader);
+        }
     }
-    State {
-        reader,
-        next: Next::ReadFailed,
-    }
+    Err(Failed::Read)
 }
 
-fn write_last(console: &Console<'_>, ending: Ending) -> bool {
+fn write_last(console: &Console<'_>, ending: Result<(), Refusal>) -> Result<(), Failed> {
     let mut line = [0u8; LAST];
     let n = put_last(ending, &mut line);
     print(console, &line[..n])
 }
 
-// The last line.
-fn end_log(console: &Console<'_>, places: &[u8], reader: Reader) -> Ended
+// The last line, and what it says.
+fn end_log(console: &Console<'_>, places: &[u8], reader: Reader) -> Result<(), Stopped>
     requires { is_state places.now reader ≡ true }
     ensures { Ends (state_of places.now reader) result }
 {
-    let closed = end(places, reader);
-    let ending = closed.ending;
-    if write_last(console, ending) {
-        return Ended::Listed(ending);
-    }
-    Ended::WriteFailed
-}
-
-fn end_listing(console: &Console<'_>, places: &[u8], reader: Reader, next: Next) -> Ended
-    requires { is_state places.now reader ≡ true }
-    ensures { Ends (state_of places.now reader) result }
-{
-    match next {
-        Next::Read => Ended::ReadFailed,
-        Next::End => end_log(console, places, reader),
-        Next::ReadFailed => Ended::ReadFailed,
-        Next::WriteFailed => Ended::WriteFailed,
-    }
+    let ending = end(places, reader).ending;
+    write_last(console, ending)?;
+    Ok(ending?)
 }
 
 // Lists what the input yields.
-fn list_input(console: &Console<'_>, input: &mut Input<'_>) -> Ended {
+fn list_input(console: &Console<'_>, input: &mut Input<'_>) -> Result<(), Stopped> {
     let mut places = [0u8; LIMIT];
     let mut out = [0u8; ROOM];
     let mut piece = [0u8; PIECE];
-    let state = list_reads(console, input, &mut places, &mut out, &mut piece);
-    let reader = state.reader;
-    let next = state.next;
-    end_listing(console, &places, reader, next)
+    let reader = list_reads(console, input, &mut places, &mut out, &mut piece)?;
+    end_log(console, &places, reader)
 }
 
 // The program. Answers its status: 0 where a log was read to its end and written, 1 where it was refused or a file, a read or a write failed, 2 for bad

@@ -1,5 +1,6 @@
 -- The loop over the calls in a part. Each entry takes one byte at least, so that there is room for its line.
 -- Assumes nothing.
+use Rattle.std.specs.Prelude.{Err}
 use mathlib.Core.Path.{◌≡◌, refl, sym, ap, ◌∙◌}
 use mathlib.Core.Bool.{true, false, true≢false}
 use mathlib.Core.List.{List, [], ◌∷◌, ◌++◌, append-nil}
@@ -25,8 +26,7 @@ use Rattle.log_reader.specs.declared.Answer.{Answer}
 use Rattle.log_reader.specs.declared.Answer.TheVariants as answer
 use Rattle.log_lines.specs.Text.{entry_lines, longest_entry}
 use Rattle.log_lines.specs.Part.{gave, status_by, Turns, status_said, Shown, is_short, list_of, Lines, Lists}
-use Rattle.log_lines.specs.declared.Status.{Status}
-use Rattle.log_lines.specs.declared.Status.TheVariants.{Refused}
+use Rattle.log_lines.specs.Part.{Status}
 use Rattle.log_lines.specs.declared.Turn.{Turn}
 use Rattle.log_lines.specs.declared.Listed.{Listed}
 use Rattle.log_lines.proofs.Calls.{takes_some, said_at_lem, takes_inside, read_on}
@@ -190,11 +190,11 @@ module _ {p₀ : List ℕ} {st₀ : Reader} {part out₀ places : List ℕ} {st 
 -- ---- Any part
 
 module _ {p : List ℕ} {st : Reader} {part out : List ℕ} where
-  pub bad_state_lem : is_state p st ≡ false → Lists p st part out p out (record { reader = st; written = 0; status = Refused BadState })
+  pub bad_state_lem : is_state p st ≡ false → Lists p st part out p out (record { reader = st; written = 0; status = Err BadState })
   unfolding list_of
   bad_state_lem bad = record { shown = simp bad; written_in = omega arith; stands = λ good. absurd (true≢false (sym good ∙ bad)); kept = λ k. (refl, refl) }
 
-  pub no_room : is_state p st ≡ true → is_short part out ≡ true → Lists p st part out p out (record { reader = st; written = 0; status = Refused BufferOverflow })
+  pub no_room : is_state p st ≡ true → is_short part out ≡ true → Lists p st part out p out (record { reader = st; written = 0; status = Err BufferOverflow })
   unfolding list_of
   no_room good short = record { shown = simp (good, short); written_in = omega arith; stands = λ k. good; kept = λ k. (refl, refl) }
 

@@ -4,11 +4,14 @@ use mathlib.Core.Path.{◌≡◌, refl, sym, ap, ◌∙◌}
 use mathlib.Core.List.{List, [], ◌∷◌, ◌++◌, append_assoc, append-nil}
 use Prim.Native.Nat.{ℕ, ◌+◌, ◌-◌, ◌≤◌}
 use native.Mathlib.Omega.{arith}
-use borrow.Author.Tests.{leb-true}
+use borrow.Author.Tests.{leb-true, ne_eqb}
 use lib.ListN.{length, get_or}
 use Rattle.base.specs.Parts.{fits_in}
 use Rattle.base.proofs.Tests.{by_test}
+use Rattle.refusals.specs.Row.{number_of}
 use Rattle.refusals.specs.declared.Refusal.{Refusal}
+use Rattle.refusals.specs.declared.Refusal.TheVariants.{InvalidLog, InvalidFrame}
+use Rattle.log_reader.proofs.Readers.{nine, ten}
 use Rattle.reading.specs.Answer.{Frame}
 use Rattle.lines.specs.Put.{put_within}
 use Rattle.lines.specs.Lines.{frame_line, frame_line_at, line}
@@ -16,7 +19,7 @@ use Rattle.kit_log.specs.Entry.{Entry}
 use Rattle.kit_log.specs.Reading.{State, refused, start, Reading, read_from, reading}
 use Rattle.kit_log.proofs.Reading.{goes_on, stays_refused}
 use Rattle.log_lines.specs.Part.{front_of}
-use Rattle.log_lines.specs.Text.{entry_line, entry_lines, last_line, whole_text, text_from}
+use Rattle.log_lines.specs.Text.{entry_line, entry_lines, refusal_line, last_line, whole_text, text_from}
 
 pub lines_append : (xs ys : List Entry) → entry_lines (xs ++ ys) ≡ entry_lines xs ++ entry_lines ys
 unfolding entry_lines
@@ -26,6 +29,11 @@ lines_append (e ∷ xs) ys = ap (λ (l : List ℕ). entry_line e ++ l) (lines_ap
 pub one_line : (e : Entry) → entry_lines (e ∷ []) ≡ entry_line e
 unfolding entry_lines
 one_line e = append-nil (entry_line e)
+
+-- a refusal that is not of logs has no line
+pub no_line : (r : Refusal) → (r ≡ InvalidLog → ⊥) → (r ≡ InvalidFrame → ⊥) → refusal_line r ≡ []
+unfolding refusal_line
+no_line r h k = simp (ne_eqb (number_of r) 9 (λ e. h (nine r e)), ne_eqb (number_of r) 10 (λ e. k (ten r e)))
 
 -- ---- Parts
 

@@ -1,6 +1,6 @@
 -- What the listing of a part of a log shows, and that it is the reading's.
 -- Assumes nothing.
-use Rattle.std.specs.Prelude.{ℕ, ◌+◌, ◌*◌, ◌≤◌, ◌≡◌, Bool, true, false, List, ltb, length}
+use Rattle.std.specs.Prelude.{ℕ, ◌+◌, ◌*◌, ◌≤◌, ◌≡◌, Bool, true, false, List, ltb, length, Result, Ok, Err}
 use Rattle.base.specs.Choice.{when◌then◌else◌}
 use Rattle.base.specs.Parts.{pasted}
 use Rattle.refusals.specs.declared.Refusal.{Refusal}
@@ -15,10 +15,12 @@ use Rattle.log_reader.specs.declared.Reader.{Reader}
 use Rattle.log_reader.specs.declared.Answer.{Answer}
 use Rattle.log_reader.specs.declared.Answer.TheVariants as answer
 use Rattle.log_lines.specs.Text.{entry_lines, longest_entry}
-use Rattle.log_lines.specs.declared.Status.{Status}
-use Rattle.log_lines.specs.declared.Status.TheVariants.{More, Refused}
 use Rattle.log_lines.specs.declared.Turn.{Turn}
 use Rattle.log_lines.specs.declared.Listed.{Listed}
+
+-- why a part ended: all of it is listed, or the refusal
+abbrev pub Status : Type 0
+Status = Result Unit Refusal
 
 -- ---- A call
 
@@ -28,9 +30,9 @@ gave (answer.Entry t place) = true
 gave (answer.Refused r) = false
 
 abbrev pub status_by : Answer → Status
-status_by answer.More = More
-status_by (answer.Entry t place) = More
-status_by (answer.Refused r) = Refused r
+status_by answer.More = Ok tt
+status_by (answer.Entry t place) = Ok tt
+status_by (answer.Refused r) = Err r
 
 -- .. and the line of its entry, if any, where there is room for the longest
 pub record Turns (before : List ℕ) (st : Reader) (input out : List ℕ) (at : ℕ) (places outAfter : List ℕ) (r : Turn) : Type 0 where
@@ -42,9 +44,9 @@ pub record Turns (before : List ℕ) (st : Reader) (input out : List ℕ) (at : 
 
 -- what is said where a part ends
 abbrev pub status_said : Said → Status
-status_said more = More
-status_said (gives e) = More
-status_said (call.refuses r) = Refused r
+status_said more = Ok tt
+status_said (gives e) = Ok tt
+status_said (call.refuses r) = Err r
 
 pub record Shown : Type 0 where
   pub state : State
@@ -57,7 +59,7 @@ shown_of places out r = record { state = state_of places r.reader; written = r.w
 
 -- nothing is changed
 abbrev pub refuses : Refusal → State → List ℕ → Shown
-refuses r st out = record { state = st; written = 0; status = Refused r; buffer = out }
+refuses r st out = record { state = st; written = 0; status = Err r; buffer = out }
 
 -- the lines of the part's entries stand at the front of the buffer
 abbrev pub lists : State → List ℕ → List ℕ → Shown

@@ -1,6 +1,6 @@
 -- The lines of a log (RULES 16): one for each entry, its seconds and then the listing's line of its frame; and a last one for how the log ended.
 -- Assumes nothing.
-use Rattle.std.specs.Prelude.{ℕ, List, [], ◌∷◌, ◌++◌, eqb}
+use Rattle.std.specs.Prelude.{ℕ, List, [], ◌∷◌, ◌++◌, eqb, Ok, Err}
 use Rattle.base.specs.Choice.{when◌then◌else◌}
 use Rattle.refusals.specs.Row.{number_of}
 use Rattle.refusals.specs.declared.Refusal.{Refusal}
@@ -8,8 +8,7 @@ use Rattle.lines.specs.Lines.{leading, spaced_decimal, line_end, frame_line_at}
 use Rattle.kit_log.specs.Entry.{Entry}
 use Rattle.kit_log.specs.Reading.{State, read_from, reading, finish}
 use Rattle.log_reader.specs.Reader.{ending_of}
-use Rattle.log_reader.specs.declared.Ending.{Ending}
-use Rattle.log_reader.specs.declared.Ending.TheVariants.{Log, Refused}
+use Rattle.log_reader.specs.Reader.{Ending}
 
 -- the seconds, a space, and the line of the frame that its first three bytes say
 unfoldable pub entry_line : Entry → List ℕ
@@ -37,8 +36,8 @@ refusal_line r =
     when eqb (number_of r) 10 then refused_word ++ spaced_decimal 10 ++ line_end else []
 
 unfoldable pub ending_line : Ending → List ℕ
-ending_line Log = end_word ++ line_end
-ending_line (Refused r) = refusal_line r
+ending_line (Ok tt) = end_word ++ line_end
+ending_line (Err r) = refusal_line r
 
 -- the last line, where the log ends at a state
 abbrev pub last_line : State → List ℕ

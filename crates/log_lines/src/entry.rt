@@ -6,28 +6,24 @@ ghost use Rattle.log_reader.specs.Reader.{said_by};
 ghost use Rattle.log_lines.specs.Text.{longest_entry, entry_line, entry_lines};
 ghost use Rattle.log_lines.specs.Part.{gave, status_by};
 
-use crate::{LONGEST_ENTRY, Status};
+use crate::LONGEST_ENTRY;
 use base::fits;
 use lines::line::{put_frame_line, put_number};
 use log_reader::{Answer, frame};
+use refusals::Refusal;
 
 pub(crate) fn is_entry(answer: Answer) -> bool
     ensures { result ≡ gave answer }
 {
-    match answer {
-        Answer::More => false,
-        Answer::Entry { .. } => true,
-        Answer::Refused(_) => false,
-    }
+    matches!(answer, Answer::Entry { .. })
 }
 
-pub(crate) fn status_of(answer: Answer) -> Status
+pub(crate) fn status_of(answer: Answer) -> Result<(), Refusal>
     ensures { result ≡ status_by answer }
 {
     match answer {
-        Answer::More => Status::More,
-        Answer::Entry { .. } => Status::More,
-        Answer::Refused(refusal) => Status::Refused(refusal),
+        Answer::Refused(refusal) => Err(refusal),
+        _ => Ok(()),
     }
 }
 
@@ -43,6 +39,7 @@ fn put_entry(seconds: u32, frame: &[u8], out: &mut [u8], at: usize) -> usize
 }
 
 // The line of what a call says, if any.
+#[tactic(auto, using(crate::proofs::Laws::one_line, lines::proofs::Puts::within_nothing), unfolding(log_reader::specs::Reader::said_by, kit_log::specs::Call::given, crate::specs::Text::entry_lines))]
 pub(crate) fn put_answer<'a>(
     answer: Answer,
     piece: &'a [u8],
@@ -53,13 +50,12 @@ pub(crate) fn put_answer<'a>(
     ensures { ((result, out.new) ≡ put_within longest_entry (entry_lines (given (said_by piece.now places.now answer))) at out.old) × (result ≤ at + longest_entry) }
 {
     match answer {
-        Answer::More => at,
         Answer::Entry { seconds, place } => put_entry(
             seconds,
             frame(place, piece, places),
             out,
             at,
         ),
-        Answer::Refused(_) => at,
+        _ => at,
     }
 }

@@ -11,27 +11,19 @@ ghost use Rattle.log_lines.specs.Part.{front_of, Turns, Lines, Lists};
 
 use base::{copy_in, fits};
 use entry::{is_entry, put_answer, status_of};
-use log_reader::{Answered, Ending, Reader, is_state, next};
-use refusals::{Refusal, row_of};
+use log_reader::{Answered, Reader, is_state, next};
+use refusals::Refusal;
 
 // No line of an entry is longer.
 pub const LONGEST_ENTRY: usize = 27;
 
-// Why a part ended.
-#[derive(Clone, Copy)]
-pub enum Status {
-    // All of it is listed, and the log goes on or ends.
-    More,
-    // The log is refused; or nothing was changed, where no line could be listed.
-    Refused(Refusal),
-}
-
-// The reader behind the part, and how many bytes were written.
+// The reader behind the part, how many bytes were written, and why the part ended: all of it is listed, and the log goes on or ends; or the log is refused, or
+// nothing was changed, where no line could be listed.
 #[derive(Clone, Copy)]
 pub struct Listed {
     pub reader: Reader,
     pub written: usize,
-    pub status: Status,
+    pub status: Result<(), Refusal>,
 }
 
 // One call of the reader, and the place behind its line.
@@ -54,6 +46,7 @@ fn list_one(places: &mut [u8], reader: Reader, input: &[u8], out: &mut [u8], at:
 }
 
 // Calls, until one gives no entry. Each entry takes one byte at least, so there is room for its line.
+#[tactic(auto, using(crate::proofs::Going::begin))]
 fn list_entries(places: &mut [u8], reader: Reader, part: &[u8], out: &mut [u8]) -> Listed
     requires { (is_state places.old reader ≡ true) × (longest_entry * length part.now ≤ length out.old) }
     ensures { Lines places.old reader part.now out.old places.new out.new result }
@@ -61,6 +54,7 @@ fn list_entries(places: &mut [u8], reader: Reader, part: &[u8], out: &mut [u8]) 
     let mut state = reader;
     let mut taken = 0;
     let mut at = 0;
+    // No index: a step is as long as what the call took.
     while taken <= part.len() {
         let one = list_one(places, state, &part[taken..], out, at);
         let answered = one.answered;
@@ -79,21 +73,22 @@ fn list_entries(places: &mut [u8], reader: Reader, part: &[u8], out: &mut [u8]) 
     Listed {
         reader: state,
         written: at,
-        status: Status::More,
+        status: Ok(()),
     }
 }
 
 fn refuse(reader: Reader, refusal: Refusal) -> Listed
-    ensures { result ≡ record { reader = reader; written = 0; status = Status.Refused refusal } }
+    ensures { result ≡ record { reader = reader; written = 0; status = Err refusal } }
 {
     Listed {
         reader,
         written: 0,
-        status: Status::Refused(refusal),
+        status: Err(refusal),
     }
 }
 
 // The lines of the entries in a part of a log, at the front of the buffer, which has 27 bytes for each byte of the part.
+#[tactic(auto, using(crate::proofs::Going::bad_state_lem, crate::proofs::Going::no_room))]
 pub fn list_part(places: &mut [u8], reader: Reader, part: &[u8], out: &mut [u8]) -> Listed
     ensures { Lists places.old reader part.now out.old places.new out.new result }
 {
@@ -117,26 +112,24 @@ fn put_front(out: &mut [u8], text: &[u8]) -> usize
     0
 }
 
-// By number: no line for a refusal that is not of logs.
+// No line for a refusal that is not of logs.
 fn put_refusal(refusal: Refusal, out: &mut [u8]) -> usize
     ensures { (result, out.new) ≡ front_of (refusal_line refusal) out.old }
 {
-    let row = row_of(refusal);
-    if row.number == 9 {
-        return put_front(out, b"refused 9\n");
+    match refusal {
+        Refusal::InvalidLog => put_front(out, b"refused 9\n"),
+        Refusal::InvalidFrame => put_front(out, b"refused 10\n"),
+        _ => 0,
     }
-    if row.number == 10 {
-        return put_front(out, b"refused 10\n");
-    }
-    0
 }
 
 // The last line, at the front of the buffer. Answers how many bytes were written: none where there is no room.
-pub fn put_last(ending: Ending, out: &mut [u8]) -> usize
+#[tactic(auto, unfolding(crate::specs::Text::ending_line))]
+pub fn put_last(ending: Result<(), Refusal>, out: &mut [u8]) -> usize
     ensures { (result, out.new) ≡ front_of (ending_line ending) out.old }
 {
     match ending {
-        Ending::Log => put_front(out, b"end\n"),
-        Ending::Refused(refusal) => put_refusal(refusal, out),
+        Ok(()) => put_front(out, b"end\n"),
+        Err(refusal) => put_refusal(refusal, out),
     }
 }

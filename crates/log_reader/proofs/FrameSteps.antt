@@ -1,5 +1,6 @@
 -- One byte of a frame, over the places that hold those before it.
 -- Assumes nothing.
+use Rattle.std.specs.Prelude.{Ok, Err}
 use mathlib.Core.Path.{◌≡◌, refl, sym, ap, ap₂, ◌∙◌}
 use mathlib.Core.Bool.{Bool, true, false, ◌&&◌}
 use mathlib.Core.List.{List, [], ◌∷◌, ◌++◌}
@@ -13,11 +14,12 @@ use lib.Seq.{length-take-le, get_or-take, take-take, take-suc-set, get_or-set_sa
 use Rattle.base.specs.Choice.{when◌then◌else◌}
 use Rattle.base.proofs.Tests.{by_test}
 use Rattle.base.proofs.Parts.{drop_take}
+use Rattle.refusals.specs.declared.Refusal.{Refusal}
 use Rattle.refusals.specs.declared.Refusal.TheVariants.{InvalidFrame}
+use Rattle.crc.specs.declared.Mismatch.{Mismatch}
 use Rattle.crc.specs.Check.{check_of}
 use Rattle.crc.specs.Remainder.{remainder}
-use Rattle.crc.specs.declared.Check.{Check}
-use Rattle.crc.specs.declared.Check.TheVariants.{Right, Wrong}
+use Rattle.crc.specs.Check.{Check}
 use Rattle.packets.specs.Listed.{listed}
 use Rattle.reading.specs.Answer.{covered, carried}
 use Rattle.reading.specs.Reading.{limit, passes}
@@ -178,17 +180,17 @@ module _ (p : List ℕ) (t n k b : ℕ) (state : Begun p n k) where
 
 -- ---- the last byte
 
-pub right_says : (x y : ℕ) → check_of x y ≡ Right → eqb x y ≡ true
+pub right_says : (x y : ℕ) → check_of x y ≡ Ok tt → eqb x y ≡ true
 right_says x y e = by_test (eqb x y) (λ t. t) (λ t. absurd (never (simp t at e)))
   where
-    never : Wrong x y ≡ Right → ⊥
-    never q = let z : ◌≡◌ {A = ℕ} 0 1 = cc in omega arith
+    never : {r : Mismatch} → ◌≡◌ {A = Check} (Err r) (Ok tt) → ⊥
+    never q = cc
 
-pub wrong_says : (x y : ℕ) {u v : ℕ} → check_of x y ≡ Wrong u v → eqb x y ≡ false
-wrong_says x y {u} {v} e = by_test (eqb x y) (λ t. absurd (never (simp t at e))) (λ t. t)
+pub wrong_says : (x y : ℕ) {r : Mismatch} → check_of x y ≡ Err r → eqb x y ≡ false
+wrong_says x y {r} e = by_test (eqb x y) (λ t. absurd (never (simp t at e))) (λ t. t)
   where
-    never : Right ≡ Wrong u v → ⊥
-    never q = let z : ◌≡◌ {A = ℕ} 0 1 = cc in omega arith
+    never : ◌≡◌ {A = Check} (Ok tt) (Err r) → ⊥
+    never q = cc
 
 module _ (p : List ℕ) (t n b : ℕ) (whole : LastByte p n b) where
   c : List ℕ
@@ -231,14 +233,14 @@ module _ (p : List ℕ) (t n b : ℕ) (whole : LastByte p n b) where
       differ : ◌≡◌ {A = Bool} true false → ⊥
       differ z = let y : ◌≡◌ {A = ℕ} 0 1 = cc in omega arith
 
-  pub judged_right : {r : Check} → r ≡ check_of (remainder (take (n - 1 - 2) (drop 2 p))) b → r ≡ Right → FedFrame p t n (take n p) p (turn.Entry t n)
+  pub judged_right : {r : Check} → r ≡ check_of (remainder (take (n - 1 - 2) (drop 2 p))) b → r ≡ Ok tt → FedFrame p t n (take n p) p (turn.Entry t n)
   unfolding c
   judged_right e q =
       let f = fine_is (passes_is ∙ right_says (remainder (take (n - 1 - 2) (drop 2 p))) b (sym e ∙ q)) in
       let long = c_long in
       record { fed = sym (feed_whole t n (take n p) f (omega arith)); stands = n_fits; same = refl }
 
-  pub judged_wrong : {r : Check} {x y : ℕ} → r ≡ check_of (remainder (take (n - 1 - 2) (drop 2 p))) b → r ≡ Wrong x y
+  pub judged_wrong : {r : Check} {w : Mismatch} → r ≡ check_of (remainder (take (n - 1 - 2) (drop 2 p))) b → r ≡ Err w
       → FedFrame p t n (take n p) p (turn.On (Refused InvalidFrame))
   unfolding c
   judged_wrong e q =

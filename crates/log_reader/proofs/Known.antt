@@ -28,7 +28,7 @@ use Rattle.log_reader.specs.declared.Place.TheVariants.{InPiece, InHeld}
 use Rattle.log_reader.specs.declared.Answer.{Answer}
 use Rattle.log_reader.specs.declared.Answer.TheVariants as answer
 use Rattle.log_reader.specs.declared.Answered.{Answered}
-use Rattle.log_reader.specs.declared.Ending.{Ending}
+use Rattle.log_reader.specs.Reader.{Ending}
 use Rattle.log_reader.specs.declared.Closed.{Closed}
 use Rattle.log_reader.proofs.Readers.{few_groups}
 use Rattle.log_reader.proofs.FrameSteps.{begun}

@@ -1,22 +1,22 @@
 -- A frame that stands whole in the piece: what a call says of it.
 -- Assumes nothing.
+use Rattle.std.specs.Prelude.{Ok, Err}
 use mathlib.Core.Path.{◌≡◌, refl, sym, ap, ap₂, ◌∙◌, subst}
 use mathlib.Core.Bool.{true, false}
-use mathlib.Core.Logic.{◌⊎◌, ⊎_elim}
 use mathlib.Core.List.{List, [], ◌∷◌, ◌++◌, append_assoc, append-nil}
 use Prim.Native.Nat.{ℕ, zero, suc, ◌+◌, ◌-◌, ◌≤◌, ◌<◌}
 use native.Mathlib.Omega.{arith}
-use borrow.Author.Tests.{eqb-true, eq-eqb, ne_eqb}
+use borrow.Author.Tests.{ne_eqb}
 use lib.Dec.{eqb, lit<}
 use lib.ListN.{length, get_or, take, drop, length-append, take-append-drop}
 use lib.Seq.{take-suc, take_all, length-take-le, get_or-take, get_or-drop, drop-drop, take-take, drop-cons}
 use Rattle.base.specs.Parts.{part}
 use Rattle.base.proofs.Tests.{by_test}
 use Rattle.base.proofs.Parts.{drop_take, length_part}
+use Rattle.crc.specs.declared.Mismatch.{Mismatch}
 use Rattle.crc.specs.Check.{check_of}
 use Rattle.crc.specs.Remainder.{remainder}
-use Rattle.crc.specs.declared.Check.{Check}
-use Rattle.crc.specs.declared.Check.TheVariants.{Right, Wrong}
+use Rattle.crc.specs.Check.{Check}
 use Rattle.packets.specs.Listed.{listed}
 use Rattle.reading.specs.Answer.{covered, carried}
 use Rattle.reading.specs.Reading.{limit, passes}
@@ -26,22 +26,24 @@ use Rattle.kit_log.specs.Strings.{Begins}
 use Rattle.kit_log.specs.Call.{gives, refuses, later, call}
 use Rattle.log_reader.specs.State.{state_of, is_state}
 use Rattle.log_reader.specs.Reader.{said_by, Runs}
-use Rattle.log_reader.specs.Parts.{fresh_of, InOne}
+use Rattle.log_reader.specs.Parts.{FedNumber, FedFrame, InOne}
 use Rattle.log_reader.specs.declared.Wanted.TheVariants.{Seconds}
+use Rattle.log_reader.specs.declared.Wanted.{Wanted}
+use Rattle.log_reader.specs.declared.Turn.{Turn}
+use Rattle.log_reader.specs.declared.Turn.TheVariants as turn
+use Rattle.refusals.specs.declared.Refusal.{Refusal}
 use Rattle.refusals.specs.declared.Refusal.TheVariants.{InvalidFrame}
 use Rattle.log_reader.specs.declared.Reader.{Reader}
-use Rattle.log_reader.specs.declared.Reader.TheVariants.{Number, Frame, Refused, Ended}
+use Rattle.log_reader.specs.declared.Reader.TheVariants.{Number, Frame, Refused}
 use Rattle.log_reader.specs.declared.Answer.TheVariants as answer
 use Rattle.log_reader.specs.declared.Place.TheVariants as place
 use Rattle.log_reader.specs.declared.Answered.{Answered}
-use Rattle.log_reader.specs.declared.Fresh.{Fresh}
 use Rattle.kit_log.proofs.History.{call_on, call_entry, call_refused}
 use Rattle.kit_log.proofs.Agrees.{begins_front, feed_part, feed_whole, feed_bad, snoc}
 use Rattle.kit_log.proofs.Frames.{begins_fine, fine_begins, says_fine, fine_says}
 use Rattle.log_reader.proofs.FrameSteps.{Begun, begun, right_says, wrong_says}
 use Rattle.log_reader.proofs.Readers.{of_logs_10, stands_refused, stands_fresh, state_room}
-use Rattle.log_reader.proofs.Late as late
-use Rattle.log_reader.proofs.Turns.{later_later, Going}
+use Rattle.log_reader.proofs.Turns.{later_later, Going, Taken, turn_number, turn_frame}
 
 -- ---- calls inside a frame
 
@@ -236,13 +238,13 @@ module _ (t n : ℕ) (input : List ℕ) (i : ℕ) (low : 4 ≤ n) (high : n ≤ 
       unfolding passes
       c_passes = ap₂ (λ (l : List ℕ) (y : ℕ). eqb (remainder l) y) c_covered c_carried
 
-      pub piece_wrong : {u v : ℕ} → x ≡ Wrong u v → {r : Answered}
+      pub piece_wrong : {w : Mismatch} → x ≡ Err w → {r : Answered}
           → r ≡ record { reader = Refused InvalidFrame; taken = i + n; answer = answer.Refused InvalidFrame } → InOne t n input i r
       piece_wrong w r-is =
           refuses_at (length c) (bad_check_lem t c s c_low c_high c_listed c_second (c_passes ∙ wrong_says (remainder body) (get_or input (i + n - 1) 0) (sym q ∙ w)))
           (ap (λ (m : ℕ). i + m) (sym c_long)) r-is
 
-      pub piece_right : x ≡ Right → {r : Reader} → r ≡ Number Seconds 0 0
+      pub piece_right : x ≡ Ok tt → {r : Reader} → r ≡ Number Seconds 0 0
           → InOne t n input i (record { reader = r; taken = i + n; answer = answer.Entry t (place.InPiece i n) })
       unfolding c said_by
       piece_right w r-is =
@@ -257,40 +259,29 @@ module _ (t n : ℕ) (input : List ℕ) (i : ℕ) (low : 4 ≤ n) (high : n ≤ 
 
 -- ---- in the loop
 
--- a frame that is to begin, as a state
-fresh_is : (p : List ℕ) (at : Reader) → ((fresh_of at).size ≡ 0 → ⊥) → at ≡ Frame (fresh_of at).seconds (fresh_of at).size 0
-fresh_is p (Number wanted v g) h = absurd (h refl)
-fresh_is p (Frame t n k) h =
-    by_test (eqb k 0) (λ e. simp e (ap (Frame t n) (eqb-true k 0 e))) (λ e. absurd (h (simp e)))
-fresh_is p (Refused r) h = absurd (h refl)
-fresh_is p Ended h = absurd (h refl)
-
-module _ (p : List ℕ) (at : Reader) (state : is_state p at ≡ true) {f : Fresh} (e : f ≡ fresh_of at) (some : f.size ≡ 0 → ⊥) where
-  fresh_state : at ≡ Frame f.seconds f.size 0
-  fresh_state = rw e (fresh_is p at (λ z. some (ap (λ (x : Fresh). x.size) e ∙ z)))
-
-  pub fresh_begun : Begun p f.size 0
-  fresh_begun = begun p f.seconds f.size 0 (ap (is_state p) (sym fresh_state) ∙ state)
+-- a frame that is to begin
+module _ (p : List ℕ) (t n : ℕ) {at : Reader} (e : at ≡ Frame t n 0) (state : is_state p at ≡ true) where
+  pub fresh_begun : Begun p n 0
+  fresh_begun = begun p t n 0 (rw e at state)
 
   pub going_piece : {p₀ : List ℕ} {at₀ : Reader} {input : List ℕ} {i : ℕ} {r : Answered}
-      → Going p₀ at₀ input p at i → InOne f.seconds f.size input i r → Runs p₀ at₀ input p r
+      → Going p₀ at₀ input p at i → InOne t n input i r → Runs p₀ at₀ input p r
   going_piece {input = input} {i} g one = record {
-    shown = one.shown p ∙ ap (λ (st : Reader). later i (call (state_of p st) (drop i input))) (sym fresh_state) ∙ sym g.calls;
+    shown = one.shown p ∙ ap (λ (st : Reader). later i (call (state_of p st) (drop i input))) (sym e) ∙ sym g.calls;
     stands = one.stands p (state_room p at state);
     placed = one.placed p;
     same = g.same;
   }
 
--- a frame that is to begin, and does not stand whole in the piece, does not end in it
-pub fresh_late : (p : List ℕ) (at : Reader) (m i : ℕ) → is_state p at ≡ true → {f : Fresh} → f ≡ fresh_of at → (f.size ≡ 0) ⊎ (m < i + f.size) → late.Fresh m i (state_of p at)
-fresh_late p (Number wanted v g) m i s e h = tt
-fresh_late p (Frame t n k) m i s {f} e h =
-    let b = begun p t n k s in
-    let low = b.low in
-    let long : length (take k p) ≡ k = length-take-le k p (omega (arith, b.short, b.high, b.room)) in
-    λ none.
-    let k_is : k ≡ 0 = sym long ∙ none in
-    let size : f.size ≡ n = ap (λ (x : Fresh). x.size) e ∙ simp (eq-eqb k 0 k_is) in
-    ⊎_elim (λ (z : f.size ≡ 0). absurd (omega arith)) (λ (z : m < i + f.size). omega arith) h
-fresh_late p (Refused r) m i s e h = tt
-fresh_late p Ended m i s e h = tt
+-- a byte of a number
+pub taken_number : (m i : ℕ) (p : List ℕ) (at : Reader) (b : ℕ) {wanted : Wanted} {v g : ℕ} {r : Reader} → is_state p at ≡ true → at ≡ Number wanted v g → FedNumber wanted v g b r
+    → Taken m i p at b p (turn.On r)
+taken_number m i p at b s e f = record { turns = turn_number p at b s e f; goes = rw e refl; fresh = rw e tt }
+
+-- .. and of a frame: one that is to begin, and does not stand whole in the piece, does not end in it
+pub taken_frame : (m i : ℕ) (p : List ℕ) (at : Reader) (b : ℕ) {t n k : ℕ} {after : List ℕ} {r : Turn} → is_state p at ≡ true → at ≡ Frame t n k → (k ≡ 0 → m < i + n)
+    → FedFrame p t n (take k p ++ b ∷ []) after r → Taken m i p at b after r
+taken_frame m i p at b {t} {n} {k} s e late f =
+    let h = begun p t n k (rw e at s) in
+    let long : length (take k p) ≡ k = length-take-le k p (omega (arith, h.short, h.high, h.room)) in
+    record { turns = turn_frame p at b s e f; goes = rw e refl; fresh = rw e (λ none. late (sym long ∙ none)) }

@@ -1,20 +1,17 @@
 -- A reader that is a state is where some log leads to; and a call takes 71 bytes at most.
 -- Assumes nothing.
 use mathlib.Core.Path.{◌≡◌, refl, sym, ap, ◌∙◌}
-use mathlib.Core.Bool.{true, false, ◌&&◌}
+use mathlib.Core.Logic.{⊎_elim}
+use mathlib.Core.Bool.{true, ◌&&◌}
 use mathlib.Core.List.{List, []}
 use Prim.Native.Nat.{ℕ, zero, suc, ◌≤◌}
 use native.Mathlib.Omega.{arith}
-use borrow.Author.Tests.{eqb-true, eqb-false, ne_eqb}
+use borrow.Author.Tests.{ne_eqb}
 use lib.Dec.{eqb, leb, ltb}
 use lib.ListN.{length, take}
 use lib.Seq.{length-take-le}
 use Rattle.base.specs.Choice.{when◌then◌else◌}
-use Rattle.base.proofs.Tests.{by_test}
-use Rattle.refusals.specs.Row.{number_of}
 use Rattle.refusals.specs.declared.Refusal.{Refusal}
-use Rattle.refusals.specs.declared.Refusal.TheVariants.{InvalidLog, InvalidFrame}
-use Rattle.refusals.proofs.Rows.{back}
 use Rattle.reading.specs.Reading.{limit}
 use Rattle.kit_log.specs.Reading.{frame, refused, fine}
 use Rattle.kit_log.specs.Call.{refuses, Call, call}
@@ -31,7 +28,7 @@ use Rattle.log_reader.specs.declared.Reader.{Reader}
 use Rattle.log_reader.specs.declared.Reader.TheVariants.{Number, Frame, Refused, Ended}
 use Rattle.log_reader.specs.declared.Answer.TheVariants as answer
 use Rattle.log_reader.specs.declared.Answered.{Answered}
-use Rattle.log_reader.proofs.Readers.{few_groups, below_weight, logs_ten, state_is, state_refused, state_room}
+use Rattle.log_reader.proofs.Readers.{few_groups, below_weight, of_logs_says, state_is, state_refused, state_room}
 use Rattle.log_reader.proofs.FrameSteps.{begun}
 use Rattle.log_reader.proofs.Turns.{number_state}
 
@@ -66,13 +63,6 @@ refused_of_logs {before} {input} {after} {st} {r} runs {k} e =
     let said : (call (state_of before st) input).said ≡ refuses k = ap (λ (c : Call). c.said) (sym runs.shown) ∙ ap (said_by input after) e in
     refused_here after r.reader runs.stands (ap (λ (c : Call). c.state) runs.shown ∙ call_stops (state_of before st) input said)
 
--- a refusal by its number
-pub nine : (r : Refusal) → number_of r ≡ 9 → r ≡ InvalidLog
-nine r e = sym (back r) ∙ rw e
-
-pub ten : (r : Refusal) → number_of r ≡ 10 → r ≡ InvalidFrame
-ten r e = sym (back r) ∙ rw e
-
 -- ---- only what some log leads to is a state
 
 pub led_to : (p : List ℕ) (st : Reader) → is_state p st ≡ true → Small (state_of p st) → LedTo (state_of p st)
@@ -85,13 +75,8 @@ led_to p (Frame t n (suc k)) s small =
     let long : length h ≡ suc k = length-take-le (suc k) p (omega (arith, b.short, b.high, b.room)) in
     let held : fine n h ≡ true = simp (ne_eqb (suc k) 0 (λ (e : suc k ≡ 0). omega arith)) at b.held in
     frame_led t n h small b.low b.high (fine_begins n h b.low b.high (omega arith) (omega (arith, b.short)) held) (omega (arith, b.short))
-led_to p (Refused r) s small = by_test (eqb (number_of r) 9) (λ t. rw (nine r (eqb-true _ _ t)) nine_led) (λ t. rw (ten r (eqb-true (number_of r) 10 (other t))) ten_led)
-  where
-    logs : of_logs r ≡ true
-    logs = state_refused p (Refused r) (state_room p (Refused r) s) refl ∙ s
-
-    other : eqb (number_of r) 9 ≡ false → eqb (number_of r) 10 ≡ true
-    other t = logs_ten r refl (eqb-false (number_of r) 9 t) ∙ logs
+led_to p (Refused r) s small =
+    ⊎_elim (λ e. rw e nine_led) (λ e. rw e ten_led) (of_logs_says r (state_refused p (Refused r) (state_room p (Refused r) s) refl ∙ s))
 led_to p Ended s small = ended_led
 
 -- ---- the bytes beside the held ones

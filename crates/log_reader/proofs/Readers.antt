@@ -2,11 +2,11 @@
 -- Assumes nothing.
 use mathlib.Core.Path.{◌≡◌, refl, sym, ap, ◌∙◌}
 use mathlib.Core.Bool.{Bool, true, false, not, and-eq-true_iff}
-use mathlib.Core.Logic.{◌⊎◌}
+use mathlib.Core.Logic.{◌⊎◌, inl, inr}
 use mathlib.Core.List.{List}
-use Prim.Native.Nat.{ℕ, zero, suc, ◌+◌, ◌*◌, ◌^◌, ◌≤◌, ◌<◌}
+use Prim.Native.Nat.{ℕ, zero, suc, ◌+◌, ◌*◌, ◌%◌, ◌^◌, ◌≤◌, ◌<◌}
 use native.Mathlib.Omega.{arith}
-use borrow.Author.Tests.{ltb-true, ltb-false, lt-ltb, le-ltb, le-leb, lt-leb, leb-true, eq-eqb, ne_eqb}
+use borrow.Author.Tests.{ltb-true, ltb-false, lt-ltb, le-ltb, le-leb, leb-true, eqb-true, eq-eqb, ne_eqb}
 use lib.Dec.{ltb, leb, eqb}
 use lib.ListN.{length, get_or, take}
 use lib.Seq.{length-take-le, get_or-take}
@@ -15,6 +15,7 @@ use Rattle.base.proofs.Tests.{by_test}
 use Rattle.refusals.specs.Row.{number_of}
 use Rattle.refusals.specs.declared.Refusal.{Refusal}
 use Rattle.refusals.specs.declared.Refusal.TheVariants.{InvalidLog, InvalidFrame}
+use Rattle.refusals.proofs.Rows.{back}
 use Rattle.packets.specs.Listed.{listed}
 use Rattle.groups.specs.Reading.{step, step_of}
 use Rattle.groups.specs.declared.Step.{Step}
@@ -57,9 +58,6 @@ module _ (n k : ℕ) (p : List ℕ) (short : k < n) (room : n ≤ length p) wher
       some zero h = absurd (h refl)
       some (suc k) h = omega arith
 
-  pub held_none : k ≡ 0 → true ≡ held_fine n p k
-  held_none e = simp (eq-eqb k 0 e)
-
   pub held_unlisted : (k ≡ 0 → ⊥) → listed (get_or p 0 0) ≡ false → false ≡ held_fine n p k
   held_unlisted h e = rw (held_is h, e)
 
@@ -79,20 +77,24 @@ pub of_logs_10 : of_logs InvalidFrame ≡ true
 unfolding of_logs
 of_logs_10 = refl
 
--- the test, by the refusal's number
-pub logs_nine : (r : Refusal) {n : ℕ} → n ≡ number_of r → n ≡ 9 → true ≡ of_logs r
-unfolding of_logs
-logs_nine r e q = sym (simp (eq-eqb (number_of r) 9 (sym e ∙ q)))
+-- a refusal by its number
+pub nine : (r : Refusal) → number_of r ≡ 9 → r ≡ InvalidLog
+nine r e = sym (back r) ∙ rw e
 
-pub logs_ten : (r : Refusal) {n : ℕ} → n ≡ number_of r → (n ≡ 9 → ⊥) → eqb n 10 ≡ of_logs r
+pub ten : (r : Refusal) → number_of r ≡ 10 → r ≡ InvalidFrame
+ten r e = sym (back r) ∙ rw e
+
+pub not_of_logs : (r : Refusal) → (r ≡ InvalidLog → ⊥) → (r ≡ InvalidFrame → ⊥) → of_logs r ≡ false
 unfolding of_logs
-logs_ten r e h = rw e (sym (simp (ne_eqb (number_of r) 9 (λ x. h (e ∙ x)))))
+not_of_logs r h k = simp (ne_eqb (number_of r) 9 (λ e. h (nine r e)), ne_eqb (number_of r) 10 (λ e. k (ten r e)))
+
+-- .. and only they are of logs
+pub of_logs_says : (r : Refusal) → of_logs r ≡ true → (r ≡ InvalidLog) ⊎ (r ≡ InvalidFrame)
+unfolding of_logs
+of_logs_says r e =
+    by_test (eqb (number_of r) 9) (λ t. inl (nine r (eqb-true _ 9 t))) (λ t. inr (ten r (eqb-true _ 10 (simp t at e))))
 
 module _ (p : List ℕ) (st : Reader) where
-  pub state_short : length p < limit → false ≡ is_state p st
-  unfolding is_state
-  state_short h = simp (lt-leb limit (length p) h)
-
   module _ (room : limit ≤ length p) where
     enough : leb limit (length p) ≡ true
     enough = le-leb limit (length p) room
@@ -111,15 +113,6 @@ module _ (p : List ℕ) (st : Reader) where
     state_ended e = rw (state_is, e)
 
     module _ {t n k : ℕ} (e : st ≡ Frame t n k) where
-      pub state_low : n < 4 → false ≡ is_state p st
-      state_low h = rw (state_is, e) (simp (lt-leb 4 n h))
-
-      pub state_high : limit < n → false ≡ is_state p st
-      state_high h = rw (state_is, e) (by_test (leb 4 n) (λ u. simp (u, lt-leb n limit h)) (λ u. simp u))
-
-      pub state_full : 4 ≤ n → n ≤ limit → n ≤ k → false ≡ is_state p st
-      state_full low high h = rw (state_is, e) (simp (le-leb 4 n low, le-leb n limit high, le-ltb k n h))
-
       pub state_held : 4 ≤ n → n ≤ limit → k < n → held_fine n p k ≡ is_state p st
       state_held low high h = rw (state_is, e) (simp (le-leb 4 n low, le-leb n limit high, lt-ltb k n h))
 
@@ -138,6 +131,16 @@ state_room p st e = leb-true limit (length p) ((and-eq-true_iff (leb limit (leng
 pub state_standing : (p : List ℕ) (st : Reader) → is_state p st ≡ true → standing p st ≡ true
 unfolding is_state
 state_standing p st e = ((and-eq-true_iff (leb limit (length p)) (standing p st)).0 e).1
+
+-- ---- what a group is worth
+
+pub shifted : (g : ℕ) → g ≤ 4 → 1 * 2 ^ (7 * g) % 18446744073709551616 ≡ 128 ^ g
+shifted zero h = refl
+shifted (suc zero) h = refl
+shifted (suc (suc zero)) h = refl
+shifted (suc (suc (suc zero))) h = refl
+shifted (suc (suc (suc (suc zero)))) h = refl
+shifted (suc (suc (suc (suc (suc g))))) h = absurd (omega arith)
 
 -- ---- a number that is begun
 

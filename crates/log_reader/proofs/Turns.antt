@@ -1,7 +1,8 @@
 -- One byte of any state, and one call: what the code says at each return.
 -- Assumes nothing.
+use Rattle.std.specs.Prelude.{Option, Some, None}
 use mathlib.Core.Path.{◌≡◌, refl, sym, ap, ap₂, ◌∙◌}
-use mathlib.Core.Bool.{true, false}
+use mathlib.Core.Bool.{true}
 use mathlib.Core.List.{List, [], ◌∷◌, ◌++◌}
 use Prim.Native.Nat.{ℕ, suc, ◌+◌, ◌≤◌, ◌<◌}
 use native.Mathlib.Nat.{zero-add, add_assoc}
@@ -15,12 +16,12 @@ use Rattle.kit_log.specs.Entry.{Entry}
 use Rattle.kit_log.specs.Reading.{number, refused, boundary, on, feed, takes, finish}
 use Rattle.kit_log.specs.Call.{Said, gives, refuses, said_at, Call, later, call}
 use Rattle.log_reader.specs.State.{want_of, weight_of, can_go_on, of_logs, state_of, is_state}
-use Rattle.log_reader.specs.Reader.{said_by, Placed, Runs, Nexts, ending_of, Closes}
-use Rattle.log_reader.specs.Parts.{stops, FedNumber, Turns, FedFrame, refusal_at, answer_at, end_number, end_reader, ending_at}
+use Rattle.log_reader.specs.Reader.{said_by, Placed, Runs, ending_of, Closes}
+use Rattle.log_reader.specs.Parts.{FedNumber, Turns, FedFrame, answer_at, end_number, end_reader, ending_at}
 use Rattle.log_reader.specs.declared.Wanted.{Wanted}
 use Rattle.log_reader.specs.declared.Wanted.TheVariants.{Version, Seconds, Size}
 use Rattle.refusals.specs.declared.Refusal.{Refusal}
-use Rattle.refusals.specs.declared.Refusal.TheVariants.{BadState, InvalidLog}
+use Rattle.refusals.specs.declared.Refusal.TheVariants.{InvalidLog}
 use Rattle.reading.specs.Reading.{limit}
 use Rattle.log_reader.specs.declared.Reader.{Reader}
 use Rattle.log_reader.specs.declared.Reader.TheVariants.{Number, Frame, Refused, Ended}
@@ -28,14 +29,13 @@ use Rattle.log_reader.specs.declared.Answer.{Answer}
 use Rattle.log_reader.specs.declared.Answer.TheVariants as answer
 use Rattle.log_reader.specs.declared.Place.TheVariants as place
 use Rattle.log_reader.specs.declared.Answered.{Answered}
-use Rattle.log_reader.specs.declared.Ending.{Ending}
-use Rattle.log_reader.specs.declared.Ending.TheVariants as ending
+use Rattle.log_reader.specs.Reader.{Ending}
 use Rattle.log_reader.specs.declared.Turn.{Turn}
 use Rattle.log_reader.specs.declared.Turn.TheVariants as turn
 use Rattle.kit_log.proofs.History.{call_on, call_entry, call_refused, call_ended}
 use Rattle.log_reader.proofs.Readers.{of_logs_9, state_refused, state_ended, state_number, stands_refused, stands_fresh, state_room, few_groups}
 use Rattle.kit_log.proofs.Weights.{weight_unit}
-use Rattle.log_reader.proofs.Late.{Late, Fresh, late_start, late_on, late_entry}
+use Rattle.log_reader.proofs.Late.{Late, Fresh, late_on, late_entry}
 
 -- ---- one byte
 
@@ -53,14 +53,6 @@ module _ (p : List ℕ) (st : Reader) (b : ℕ) (state : is_state p st ≡ true)
   pub turn_frame : {t n k : ℕ} {after : List ℕ} {r : Turn} → st ≡ Frame t n k → FedFrame p t n (take k p ++ b ∷ []) after r → Turns p (state_of p st) b after r
   unfolding feed
   turn_frame e f = rw e record { fed = f.fed; stands = f.stands; same = f.same }
-
-  pub turn_refused : {w : Refusal} → st ≡ Refused w → Turns p (state_of p st) b p (turn.On (Refused w))
-  unfolding feed
-  turn_refused {w} e = rw e record { fed = refl; stands = stands_refused p w room (state_refused p st room e ∙ state); same = refl }
-
-  pub turn_ended : st ≡ Ended → Turns p (state_of p st) b p (turn.On (Refused InvalidLog))
-  unfolding feed
-  turn_ended e = rw e record { fed = refl; stands = stands_refused p InvalidLog room of_logs_9; same = refl }
 
 -- ---- the end
 
@@ -97,9 +89,6 @@ ending_is p (Frame t n k) = refl
 ending_is p (Refused r) = refl
 ending_is p Ended = refl
 
-pub end_refused : (p : List ℕ) (st : Reader) → is_state p st ≡ false → Closes p st (record { reader = st; ending = ending.Refused BadState })
-end_refused p st e = record { refuses = λ _. refl; finishes = λ s. absurd (let z : ◌≡◌ {A = ℕ} 0 1 = cc in omega arith) }
-
 pub end_finishes : (p : List ℕ) (st : Reader) → is_state p st ≡ true → {closed : Reader} {said : Ending} → closed ≡ end_reader st → said ≡ ending_at closed
     → Closes p st (record { reader = closed; ending = said })
 end_finishes p st s {closed} {said} e q = record {
@@ -119,26 +108,39 @@ later_later i j c = ap (λ (n : ℕ). record { said = c.said; taken = n; state =
 later_zero : (c : Call) → later 0 c ≡ c
 later_zero c = ap (λ (n : ℕ). record { said = c.said; taken = n; state = c.state }) (zero-add c.taken)
 
-going_takes : (p : List ℕ) (at : Reader) → stops at ≡ false → takes (state_of p at) ≡ 1
+-- what a reader that takes no byte any more says to one
+abbrev pub refusal_at : Reader → Option Refusal
+refusal_at (Number wanted v g) = None
+refusal_at (Frame t n k) = None
+refusal_at (Refused r) = Some r
+refusal_at Ended = Some InvalidLog
+
+-- a byte that a reader takes, at place i of a piece of m
+pub record Taken (m i : ℕ) (p : List ℕ) (at : Reader) (b : ℕ) (p' : List ℕ) (t : Turn) : Type 0 where
+  pub turns : Turns p (state_of p at) b p' t
+  pub goes : refusal_at at ≡ None
+  pub fresh : Fresh m i (state_of p at)
+
+going_takes : (p : List ℕ) (at : Reader) → refusal_at at ≡ None → takes (state_of p at) ≡ 1
 unfolding takes
 going_takes p (Number wanted v g) e = refl
 going_takes p (Frame t n k) e = refl
-going_takes p (Refused w) e = absurd (let z : ◌≡◌ {A = ℕ} 0 1 = cc in omega arith)
-going_takes p Ended e = absurd (let z : ◌≡◌ {A = ℕ} 0 1 = cc in omega arith)
+going_takes p (Refused w) e = absurd (cc)
+going_takes p Ended e = absurd (cc)
 
-stopped_call : (p : List ℕ) (at : Reader) (b : ℕ) (s : List ℕ) → stops at ≡ true
-    → call (state_of p at) (b ∷ s) ≡ record { said = refuses (refusal_at at); taken = 0; state = refused (refusal_at at) }
-stopped_call p (Number wanted v g) b s e = absurd (let z : ◌≡◌ {A = ℕ} 0 1 = cc in omega arith)
-stopped_call p (Frame t n k) b s e = absurd (let z : ◌≡◌ {A = ℕ} 0 1 = cc in omega arith)
-stopped_call p (Refused w) b s e = call_refused w (b ∷ s)
-stopped_call p Ended b s e = call_ended b s
+stopped_call : (p : List ℕ) (at : Reader) {w : Refusal} (b : ℕ) (s : List ℕ) → refusal_at at ≡ Some w
+    → call (state_of p at) (b ∷ s) ≡ record { said = refuses w; taken = 0; state = refused w }
+stopped_call p (Number wanted v g) b s e = absurd (cc)
+stopped_call p (Frame t n k) b s e = absurd (cc)
+stopped_call p (Refused r) {w} b s e = let same : r ≡ w = cc in rw same (call_refused w (b ∷ s))
+stopped_call p Ended {w} b s e = let same : InvalidLog ≡ w = cc in rw same at (call_ended b s)
 
 -- what stops is of logs
-stopped_of_logs : (p : List ℕ) (at : Reader) → is_state p at ≡ true → of_logs (refusal_at at) ≡ true
-stopped_of_logs p (Number wanted v g) s = of_logs_9
-stopped_of_logs p (Frame t n k) s = of_logs_9
-stopped_of_logs p (Refused w) s = state_refused p (Refused w) (state_room p (Refused w) s) refl ∙ s
-stopped_of_logs p Ended s = of_logs_9
+stopped_of_logs : (p : List ℕ) (at : Reader) {w : Refusal} → is_state p at ≡ true → refusal_at at ≡ Some w → of_logs w ≡ true
+stopped_of_logs p (Number wanted v g) s e = absurd (cc)
+stopped_of_logs p (Frame t n k) s e = absurd (cc)
+stopped_of_logs p (Refused r) {w} s e = let same : r ≡ w = cc in rw same at (state_refused p (Refused r) (state_room p (Refused r) s) refl ∙ s)
+stopped_of_logs p Ended {w} s e = let same : InvalidLog ≡ w = cc in rw same at of_logs_9
 
 said_at_lem : (piece p : List ℕ) (at : Reader) → said_by piece p (answer_at at) ≡ said_at (state_of p at)
 unfolding said_at said_by
@@ -161,18 +163,15 @@ pub record Going (p₀ : List ℕ) (at₀ : Reader) (input p : List ℕ) (at : R
   pub calls : call (state_of p₀ at₀) input ≡ later i (call (state_of p at) (drop i input))
   pub late : Late (length input) i (state_of p at)
 
-pub going_start : (p : List ℕ) (at : Reader) (input : List ℕ) → is_state p at ≡ true → Going p at input p at 0
-going_start p at input s = record { inside = omega arith; state = s; same = refl; calls = sym (later_zero (call (state_of p at) input)); late = late_start (length input) (state_of p at) }
-
 module _ {p₀ : List ℕ} {at₀ : Reader} {input p : List ℕ} {at : Reader} {i : ℕ} (g : Going p₀ at₀ input p at i) where
-  pub going_end : length input ≤ i → {a : Answer} → a ≡ answer_at at → Runs p₀ at₀ input p (record { reader = at; taken = i; answer = a })
+  pub going_end : length input ≤ i → {n : ℕ} → n ≡ i → {a : Answer} → a ≡ answer_at at → Runs p₀ at₀ input p (record { reader = at; taken = n; answer = a })
   unfolding call
-  going_end all {a} e =
+  going_end all n-is {a} e =
       let inside = g.inside in
       let i_is : i ≡ length input = omega arith in
       let none : drop i input ≡ [] = ap (λ (j : ℕ). drop j input) i_is ∙ drop-length input in
       let zero_more : i + 0 ≡ i = omega arith in
-      rw e record {
+      rw (n-is, e) record {
         shown =
             sym
             (g.calls
@@ -190,43 +189,45 @@ module _ {p₀ : List ℕ} {at₀ : Reader} {input p : List ℕ} {at : Reader} {
     split : drop i input ≡ b ∷ drop (suc i) input
     split = drop-cons input i 0 some
 
-    pub going_stop : stops at ≡ true → {w : Refusal} → w ≡ refusal_at at
-        → Runs p₀ at₀ input p (record { reader = Refused w; taken = i; answer = answer.Refused w })
+    pub going_stop : {w : Refusal} → refusal_at at ≡ Some w → {r : Answered} → r ≡ record { reader = Refused w; taken = i; answer = answer.Refused w }
+        → Runs p₀ at₀ input p r
     unfolding said_by
-    going_stop stopped {w} e =
+    going_stop {w} stopped e =
         let zero_more : i + 0 ≡ i = omega arith in
-        let k : Refusal = refusal_at at in
         rw e record {
           shown =
               sym
               (g.calls
               ∙ ap (λ (s : List ℕ). later i (call (state_of p at) s)) split
               ∙ ap (later i) (stopped_call p at b (drop (suc i) input) stopped)
-              ∙ ap (λ (j : ℕ). record { said = refuses k; taken = j; state = refused k }) zero_more);
-          stands = stands_refused p (refusal_at at) (state_room p at g.state) (stopped_of_logs p at g.state);
+              ∙ ap (λ (j : ℕ). record { said = refuses w; taken = j; state = refused w }) zero_more);
+          stands = stands_refused p w (state_room p at g.state) (stopped_of_logs p at g.state stopped);
           placed = tt;
           same = g.same;
         }
 
-    module _ (on-goes : stops at ≡ false) {p' : List ℕ} (fresh : Fresh (length input) i (state_of p at)) where
-      pub going_on : {at' : Reader} → Turns p (state_of p at) b p' (turn.On at') → Going p₀ at₀ input p' at' (i + 1)
-      going_on {at'} t = record {
-        inside = omega arith;
-        state = t.stands;
-        same = t.same ∙ g.same;
-        calls =
-            g.calls
-            ∙ ap (λ (s : List ℕ). later i (call (state_of p at) s)) split
-            ∙ ap (later i) (call_on (state_of p at) (state_of p' at') b (drop (suc i) input) (sym t.fed))
-            ∙ later_later i (takes (state_of p at)) (call (state_of p' at') (drop (suc i) input))
-            ∙ ap₂ (λ (n m : ℕ). later n (call (state_of p' at') (drop m input))) (ap (λ (n : ℕ). i + n) (going_takes p at on-goes)) (sym (add-one i));
-        late = late_on (length input) i b (state_of p at) (sym t.fed) fresh g.late;
-      }
+    module _ {p' : List ℕ} where
+      pub going_on : {at' : Reader} → Taken (length input) i p at b p' (turn.On at') → Going p₀ at₀ input p' at' (i + 1)
+      going_on {at'} x =
+          let t = x.turns in
+          record {
+            inside = omega arith;
+            state = t.stands;
+            same = t.same ∙ g.same;
+            calls =
+                g.calls
+                ∙ ap (λ (s : List ℕ). later i (call (state_of p at) s)) split
+                ∙ ap (later i) (call_on (state_of p at) (state_of p' at') b (drop (suc i) input) (sym t.fed))
+                ∙ later_later i (takes (state_of p at)) (call (state_of p' at') (drop (suc i) input))
+                ∙ ap₂ (λ (n m : ℕ). later n (call (state_of p' at') (drop m input))) (ap (λ (n : ℕ). i + n) (going_takes p at x.goes)) (sym (add-one i));
+            late = late_on (length input) i b (state_of p at) (sym t.fed) x.fresh g.late;
+          }
 
-      pub going_entry : {t n : ℕ} {r : Reader} → Turns p (state_of p at) b p' (turn.Entry t n) → r ≡ Number Seconds 0 0
+      pub going_entry : {t n : ℕ} {r : Reader} → Taken (length input) i p at b p' (turn.Entry t n) → r ≡ Number Seconds 0 0
           → Runs p₀ at₀ input p' (record { reader = r; taken = i + 1; answer = answer.Entry t (place.InHeld n) })
       unfolding said_by
-      going_entry {t} {n} turned e =
+      going_entry {t} {n} q e =
+          let turned = q.turns in
           let same = turned.same in
           let x : Entry = record { seconds = t; frame = take n p' } in
           rw e record {
@@ -235,19 +236,11 @@ module _ {p₀ : List ℕ} {at₀ : Reader} {input p : List ℕ} {at : Reader} {
                 (g.calls
                 ∙ ap (λ (s : List ℕ). later i (call (state_of p at) s)) split
                 ∙ ap (later i) (call_entry (state_of p at) x b (drop (suc i) input) (sym turned.fed))
-                ∙ ap (λ (j : ℕ). record { said = gives x; taken = i + j; state = boundary }) (going_takes p at on-goes));
+                ∙ ap (λ (j : ℕ). record { said = gives x; taken = i + j; state = boundary }) (going_takes p at q.goes));
             stands = stands_fresh p' Seconds (omega (arith, state_room p at g.state));
             placed =
-                let late = late_entry (length input) i b (state_of p at) (sym turned.fed) fresh g.late some in
+                let late = late_entry (length input) i b (state_of p at) (sym turned.fed) q.fresh g.late some in
                 let long = length-take-le n p' turned.stands in
                 (omega arith, turned.stands);
             same = turned.same ∙ g.same;
           }
-
--- ---- any call
-
-pub next_refused : (p : List ℕ) (st : Reader) (input : List ℕ) → is_state p st ≡ false → Nexts p st input p (record { reader = st; taken = 0; answer = answer.Refused BadState })
-next_refused p st input e = record { refuses = λ _. (refl, refl); runs = λ s. absurd (let z : ◌≡◌ {A = ℕ} 0 1 = cc in omega arith) }
-
-pub next_runs : (p : List ℕ) (st : Reader) (input after : List ℕ) (r : Answered) → is_state p st ≡ true → Runs p st input after r → Nexts p st input after r
-next_runs p st input after r s runs = record { refuses = λ e. absurd (let z : ◌≡◌ {A = ℕ} 0 1 = cc in omega arith); runs = λ _. runs }

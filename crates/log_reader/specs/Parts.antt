@@ -1,8 +1,7 @@
 -- What the functions inside promise.
 -- Assumes nothing.
-use Rattle.std.specs.Prelude.{◌≡◌, Bool, true, false, List, [], ℕ, ◌≤◌, ◌+◌, ◌-◌, eqb, length, get_or, take, drop}
+use Rattle.std.specs.Prelude.{◌≡◌, Bool, true, List, [], ℕ, ◌≤◌, ◌+◌, ◌-◌, eqb, length, get_or, take, drop, Ok, Err}
 use Rattle.base.specs.Choice.{when◌then◌else◌}
-use Rattle.refusals.specs.declared.Refusal.{Refusal}
 use Rattle.refusals.specs.declared.Refusal.TheVariants.{InvalidLog}
 use Rattle.packets.specs.Listed.{listed}
 use Rattle.reading.specs.Reading.{limit}
@@ -17,9 +16,7 @@ use Rattle.log_reader.specs.declared.Reader.TheVariants.{Number, Frame, Refused,
 use Rattle.log_reader.specs.declared.Answer.{Answer}
 use Rattle.log_reader.specs.declared.Answer.TheVariants as answer
 use Rattle.log_reader.specs.declared.Answered.{Answered}
-use Rattle.log_reader.specs.declared.Ending.{Ending}
-use Rattle.log_reader.specs.declared.Ending.TheVariants as ending
-use Rattle.log_reader.specs.declared.Fresh.{Fresh}
+use Rattle.log_reader.specs.Reader.{Ending}
 use Rattle.log_reader.specs.declared.Turn.{Turn}
 use Rattle.log_reader.specs.declared.Turn.TheVariants as turn
 
@@ -73,32 +70,12 @@ FedFrame before t n h after r = TurnIs before (feed_frame t n h) after r
 
 -- ---- A call
 
--- whether a reader takes no byte any more
-abbrev pub stops : Reader → Bool
-stops (Number wanted v g) = false
-stops (Frame t n k) = false
-stops (Refused r) = true
-stops Ended = true
-
--- what one that takes none says to a byte
-abbrev pub refusal_at : Reader → Refusal
-refusal_at (Number wanted v g) = InvalidLog
-refusal_at (Frame t n k) = InvalidLog
-refusal_at (Refused r) = r
-refusal_at Ended = InvalidLog
-
+-- what is said where the piece ends
 abbrev pub answer_at : Reader → Answer
 answer_at (Number wanted v g) = answer.More
 answer_at (Frame t n k) = answer.More
 answer_at (Refused r) = answer.Refused r
 answer_at Ended = answer.More
-
--- the frame that is to begin with the next byte: its seconds and its size, or the size 0
-abbrev pub fresh_of : Reader → Fresh
-fresh_of (Number wanted v g) = record { seconds = 0; size = 0 }
-fresh_of (Frame t n k) = when eqb k 0 then record { seconds = t; size = n } else record { seconds = 0; size = 0 }
-fresh_of (Refused r) = record { seconds = 0; size = 0 }
-fresh_of Ended = record { seconds = 0; size = 0 }
 
 -- what is said of a frame of n bytes that stands whole in the piece from place i on, over any places
 pub record InOne (t n : ℕ) (piece : List ℕ) (i : ℕ) (r : Answered) : Type 0 where
@@ -120,7 +97,7 @@ end_reader (Refused r) = Refused r
 end_reader Ended = Ended
 
 abbrev pub ending_at : Reader → Ending
-ending_at (Number wanted v g) = ending.Log
-ending_at (Frame t n k) = ending.Log
-ending_at (Refused r) = ending.Refused r
-ending_at Ended = ending.Log
+ending_at (Number wanted v g) = (Ok tt)
+ending_at (Frame t n k) = (Ok tt)
+ending_at (Refused r) = Err r
+ending_at Ended = (Ok tt)

@@ -1,6 +1,6 @@
 -- What the public functions of a log's reader promise (RULES 16.8, 16.9).
 -- Assumes nothing.
-use Rattle.std.specs.Prelude.{◌≡◌, true, false, List, ℕ, ◌≤◌, ◌<◌, ◌+◌, length, take}
+use Rattle.std.specs.Prelude.{◌≡◌, true, false, List, ℕ, ◌≤◌, ◌<◌, ◌+◌, length, take, Ok, Err, Result}
 use Rattle.base.specs.Parts.{part}
 use Rattle.refusals.specs.declared.Refusal.TheVariants.{BadState}
 use Rattle.kit_log.specs.Reading.{State, number, frame, refused, ended, finish}
@@ -12,9 +12,8 @@ use Rattle.log_reader.specs.declared.Place.TheVariants.{InPiece, InHeld}
 use Rattle.log_reader.specs.declared.Answer.{Answer}
 use Rattle.log_reader.specs.declared.Answer.TheVariants.{More, Entry, Refused}
 use Rattle.log_reader.specs.declared.Answered.{Answered}
-use Rattle.log_reader.specs.declared.Ending.{Ending}
-use Rattle.log_reader.specs.declared.Ending.TheVariants as ending
 use Rattle.log_reader.specs.declared.Closed.{Closed}
+use Rattle.refusals.specs.declared.Refusal.{Refusal}
 
 -- ---- A call
 
@@ -57,12 +56,16 @@ pub record Nexts (before : List ℕ) (st : Reader) (input after : List ℕ) (r :
 
 -- ---- The end
 
+-- what was read is a log, or a refusal
+abbrev pub Ending : Type 0
+Ending = Result Unit Refusal
+
 -- what is said where a reader has come to an end
 unfoldable pub ending_of : State → Ending
-ending_of (number want v w) = ending.Log
-ending_of (frame t n h) = ending.Log
-ending_of (refused r) = ending.Refused r
-ending_of ended = ending.Log
+ending_of (number want v w) = Ok tt
+ending_of (frame t n h) = Ok tt
+ending_of (refused r) = Err r
+ending_of ended = Ok tt
 
 pub record Finishes (p : List ℕ) (st : Reader) (r : Closed) : Type 0 where
   pub finished : state_of p r.reader ≡ finish (state_of p st)
@@ -70,5 +73,5 @@ pub record Finishes (p : List ℕ) (st : Reader) (r : Closed) : Type 0 where
   pub stands : is_state p r.reader ≡ true
 
 pub record Closes (p : List ℕ) (st : Reader) (r : Closed) : Type 0 where
-  pub refuses : is_state p st ≡ false → r ≡ record { reader = st; ending = ending.Refused BadState }
+  pub refuses : is_state p st ≡ false → r ≡ record { reader = st; ending = Err BadState }
   pub finishes : is_state p st ≡ true → Finishes p st r

@@ -4,37 +4,28 @@ ghost use Rattle.log_reader.specs.State.{is_state, held_fine};
 ghost use Rattle.log_reader.specs.Parts.{may_follow, LastByte, FedFrame};
 
 use crate::{Reader, Turn};
-use base::wide;
-use crc::{Check, checked};
+use crc::checked;
 use packets::is_address;
 use refusals::Refusal;
 
+#[tactic(auto, using(crate::proofs::Readers::held_unlisted, crate::proofs::Readers::held_one, crate::proofs::Readers::held_two))]
 pub(crate) fn is_held_fine(places: &[u8], size: usize, held: usize) -> bool
     requires { (held < size) × (size ≤ length places.now) }
     ensures { result ≡ held_fine size places.now held }
 {
-    if held == 0 {
-        return true;
-    }
-    if !is_address(places[0]) {
-        return false;
-    }
-    if held < 2 {
-        return true;
-    }
-    wide(places[1]) + 2 == size
+    held == 0 || is_address(places[0]) && (held < 2 || usize::from(places[1]) + 2 == size)
 }
 
 // The whole frame is there; the places hold it, with its check byte last.
+#[tactic(auto, using(crate::proofs::FrameSteps::judged_right))]
 fn judge(places: &[u8], seconds: u32, size: usize, carried: u8) -> Turn
     requires { LastByte places.now size carried }
     ensures { FedFrame places.now seconds size (take size places.now) places.now result }
 {
     let last = size - 1;
-    let check = checked(&places[2..last], carried);
-    match check {
-        Check::Right => Turn::Entry { seconds, len: size },
-        Check::Wrong { .. } => Turn::On(Reader::Refused(Refusal::InvalidFrame)),
+    match checked(&places[2..last], carried) {
+        Ok(()) => Turn::Entry { seconds, len: size },
+        Err(_) => Turn::On(Reader::Refused(Refusal::InvalidFrame)),
     }
 }
 
@@ -42,15 +33,16 @@ fn judge(places: &[u8], seconds: u32, size: usize, carried: u8) -> Turn
 fn may_follow(size: usize, held: usize, byte: u8) -> bool
     ensures { result ≡ may_follow size held byte }
 {
-    if held == 0 {
-        return is_address(byte);
+    match held {
+        0 => is_address(byte),
+        1 => usize::from(byte) + 2 == size,
+        _ => true,
     }
-    if held == 1 {
-        return wide(byte) + 2 == size;
-    }
-    true
 }
 
+// Inlined into the one loop that calls it: as a call it takes its answer through memory, byte by byte.
+#[inline(always)]
+#[tactic(auto, using(crate::proofs::FrameSteps::begun, crate::proofs::FrameSteps::frame_judged))]
 pub(crate) fn feed_frame(
     places: &mut [u8],
     seconds: u32,

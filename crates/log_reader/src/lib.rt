@@ -1,5 +1,5 @@
 // The reader of a kit log: a state by value, over 64 places that the caller lends for the bytes of a frame that is begun; a call over one piece, and the
-// end. What is right is crate `log`.
+// end. What is right is crate `log`. The places stand beside the reader and not in it: the caller lends them, and a host keeps them in bytes of its own.
 #![tactic(auto)]
 
 mod held;
@@ -10,12 +10,12 @@ mod run;
 ghost use Rattle.std.specs.Prelude.{◌≡◌};
 ghost use Rattle.log_reader.specs.State.{can_go_on, of_logs, is_state};
 ghost use Rattle.log_reader.specs.Reader.{bytes_at, Nexts, Closes};
-ghost use Rattle.log_reader.specs.Parts.{end_number, end_reader, ending_at};
+ghost use Rattle.log_reader.specs.Parts.{end_reader, ending_at};
 
 use base::part_of;
 use held::is_held_fine;
 use number::weight_of;
-use refusals::{Refusal, row_of};
+use refusals::Refusal;
 use run::run;
 use stream::LIMIT;
 
@@ -70,17 +70,10 @@ pub struct Answered {
     pub answer: Answer,
 }
 
-// What the end says: what was read is a log, or a refusal.
-#[derive(Clone, Copy)]
-pub enum Ending {
-    Log,
-    Refused(Refusal),
-}
-
 #[derive(Clone, Copy)]
 pub struct Closed {
     pub reader: Reader,
-    pub ending: Ending,
+    pub ending: Result<(), Refusal>,
 }
 
 // What one byte makes of a reader.
@@ -88,13 +81,6 @@ pub struct Closed {
 enum Turn {
     On(Reader),
     Entry { seconds: u32, len: usize },
-}
-
-// A frame that is to begin with the next byte; the size is 0 where none is.
-#[derive(Clone, Copy)]
-struct Fresh {
-    seconds: u32,
-    size: usize,
 }
 
 // A reader before the first byte.
@@ -111,23 +97,18 @@ pub fn reset() -> Reader
 fn can_go_on(value: u32, groups: u8) -> bool
     ensures { result ≡ can_go_on value groups }
 {
-    if 4 < groups {
-        return false;
-    }
-    (value as u64) < weight_of(groups)
+    groups <= 4 && u64::from(value) < weight_of(groups)
 }
 
+#[tactic(auto, using(crate::proofs::Readers::not_of_logs), unfolding(crate::specs::State::of_logs))]
 fn of_logs(refusal: Refusal) -> bool
     ensures { result ≡ of_logs refusal }
 {
-    let row = row_of(refusal);
-    if row.number == 9 {
-        return true;
-    }
-    row.number == 10
+    matches!(refusal, Refusal::InvalidLog | Refusal::InvalidFrame)
 }
 
 // Whether the reader is one that some log leads to, over these places.
+#[tactic(auto, unfolding(crate::specs::State::is_state))]
 pub fn is_state(places: &[u8], reader: Reader) -> bool
     ensures { result ≡ is_state places.now reader }
 {
@@ -135,26 +116,9 @@ pub fn is_state(places: &[u8], reader: Reader) -> bool
         return false;
     }
     match reader {
-        Reader::Number {
-            wanted: _,
-            value,
-            groups,
-        } => can_go_on(value, groups),
-        Reader::Frame {
-            seconds: _,
-            size,
-            held,
-        } => {
-            if size < 4 {
-                return false;
-            }
-            if LIMIT < size {
-                return false;
-            }
-            if size <= held {
-                return false;
-            }
-            is_held_fine(places, size, held)
+        Reader::Number { value, groups, .. } => can_go_on(value, groups),
+        Reader::Frame { size, held, .. } => {
+            4 <= size && size <= LIMIT && held < size && is_held_fine(places, size, held)
         }
         Reader::Refused(refusal) => of_logs(refusal),
         Reader::Ended => true,
@@ -175,62 +139,44 @@ pub fn next(places: &mut [u8], reader: Reader, input: &[u8]) -> Answered
     run(places, reader, input)
 }
 
-fn end_number(wanted: Wanted, groups: u8) -> Reader
-    ensures { result ≡ end_number wanted groups }
-{
-    match wanted {
-        Wanted::Version => Reader::Refused(Refusal::InvalidLog),
-        Wanted::Seconds => {
-            if groups == 0 {
-                return Reader::Ended;
-            }
-            Reader::Refused(Refusal::InvalidLog)
-        }
-        Wanted::Size(_) => Reader::Refused(Refusal::InvalidLog),
-    }
-}
-
 fn end_reader(reader: Reader) -> Reader
     ensures { result ≡ end_reader reader }
 {
     match reader {
         Reader::Number {
-            wanted,
-            value: _,
-            groups,
-        } => end_number(wanted, groups),
-        Reader::Frame { .. } => Reader::Refused(Refusal::InvalidLog),
-        Reader::Refused(refusal) => Reader::Refused(refusal),
-        Reader::Ended => Reader::Ended,
+            wanted: Wanted::Seconds,
+            groups: 0,
+            ..
+        } => Reader::Ended,
+        Reader::Number { .. } | Reader::Frame { .. } => Reader::Refused(Refusal::InvalidLog),
+        Reader::Refused(_) | Reader::Ended => reader,
     }
 }
 
-fn ending_at(reader: Reader) -> Ending
+fn ending_at(reader: Reader) -> Result<(), Refusal>
     ensures { result ≡ ending_at reader }
 {
     match reader {
-        Reader::Number { .. } => Ending::Log,
-        Reader::Frame { .. } => Ending::Log,
-        Reader::Refused(refusal) => Ending::Refused(refusal),
-        Reader::Ended => Ending::Log,
+        Reader::Refused(refusal) => Err(refusal),
+        _ => Ok(()),
     }
 }
 
 // The log ends here.
+#[tactic(auto, using(crate::proofs::Turns::end_finishes))]
 pub fn end(places: &[u8], reader: Reader) -> Closed
     ensures { Closes places.now reader result }
 {
     if !is_state(places, reader) {
         return Closed {
             reader,
-            ending: Ending::Refused(Refusal::BadState),
+            ending: Err(Refusal::BadState),
         };
     }
     let closed = end_reader(reader);
-    let ending = ending_at(closed);
     Closed {
         reader: closed,
-        ending,
+        ending: ending_at(closed),
     }
 }
 

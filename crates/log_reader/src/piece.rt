@@ -5,39 +5,38 @@ ghost use Rattle.log_reader.specs.Parts.{InOne};
 
 use crate::number::number_of;
 use crate::{Answer, Answered, Place, Reader, Wanted};
-use base::wide;
-use crc::{Check, checked};
+use crc::checked;
 use packets::is_address;
 use refusals::Refusal;
 
-fn no_frame(taken: usize) -> Answered
-    ensures { result ≡ record { reader = Reader.Refused Refusal.InvalidFrame; taken = taken; answer = Answer.Refused Refusal.InvalidFrame } }
+// A refusal, of which the reader stands refused.
+pub(crate) fn refuse(refusal: Refusal, taken: usize) -> Answered
+    ensures { result ≡ record { reader = Reader.Refused refusal; taken = taken; answer = Answer.Refused refusal } }
 {
     Answered {
-        reader: Reader::Refused(Refusal::InvalidFrame),
+        reader: Reader::Refused(refusal),
         taken,
-        answer: Answer::Refused(Refusal::InvalidFrame),
+        answer: Answer::Refused(refusal),
     }
 }
 
 // The size bytes of the input from place i on.
+#[tactic(auto, using(crate::proofs::Pieces::piece_unlisted, crate::proofs::Pieces::piece_second, crate::proofs::Pieces::piece_right))]
 pub(crate) fn in_piece(seconds: u32, size: usize, input: &[u8], i: usize) -> Answered
     requires { (4 ≤ size) × ((size ≤ limit) × (i + size ≤ length input.now)) }
     ensures { InOne seconds size input.now i result }
 {
     if !is_address(input[i]) {
-        return no_frame(i + 1);
+        return refuse(Refusal::InvalidFrame, i + 1);
     }
-    if wide(input[i + 1]) + 2 != size {
-        return no_frame(i + 2);
+    if usize::from(input[i + 1]) + 2 != size {
+        return refuse(Refusal::InvalidFrame, i + 2);
     }
     let end = i + size;
     let start = i + 2;
     let last = end - 1;
-    let carried = input[last];
-    let check = checked(&input[start..last], carried);
-    match check {
-        Check::Right => Answered {
+    match checked(&input[start..last], input[last]) {
+        Ok(()) => Answered {
             reader: number_of(Wanted::Seconds),
             taken: end,
             answer: Answer::Entry {
@@ -45,6 +44,6 @@ pub(crate) fn in_piece(seconds: u32, size: usize, input: &[u8], i: usize) -> Ans
                 place: Place::InPiece { at: i, len: size },
             },
         },
-        Check::Wrong { .. } => no_frame(end),
+        Err(_) => refuse(Refusal::InvalidFrame, end),
     }
 }

@@ -1,6 +1,7 @@
 -- What the writer is for (RULES 16.11, 16.10): a start and then entries make the log of these entries, and nothing else in the buffer changes; it is read
 -- as these entries, and accepted; an accepted log written again is that log. And where an entry is refused, and how long one is.
 -- Assumes nothing.
+use Rattle.std.specs.Prelude.{Ok}
 use mathlib.Core.Path.{◌≡◌, refl, sym, ap, ◌∙◌, subst}
 use mathlib.Core.List.{List, [], ◌∷◌, ◌++◌, append_assoc, append-nil}
 use Prim.Native.Nat.{ℕ, suc, ◌+◌, ◌*◌, ◌≤◌, ◌<◌, ◌/◌}
@@ -17,7 +18,6 @@ use Rattle.base.proofs.Parts.{length_pasted, pasted_append, pasted_front}
 use Rattle.refusals.specs.Row.{row_of}
 use Rattle.refusals.specs.declared.Refusal.TheVariants.{InvalidFrame}
 use Rattle.refusals.proofs.Rows.{not_zero}
-use Rattle.writing.specs.declared.Written.TheVariants.{Wrote}
 use Rattle.writing.specs.Writing.{Image, bytes, refused, written_row, write_of}
 use Rattle.writing.proofs.Writing.{writes}
 use Rattle.writing.proofs.Left.{left, kept}
@@ -64,7 +64,7 @@ module _ (t : ℕ) (c : List ℕ) where
 -- ---- WHAT A CALL LEFT
 
 -- an entry that was written is sound
-valid_written : (t : ℕ) (c buffer : List ℕ) (n : ℕ) {after : List ℕ} → (written_row (Wrote n), after) ≡ write_of (entry_image t c) buffer → Valid limit c
+valid_written : (t : ℕ) (c buffer : List ℕ) (n : ℕ) {after : List ℕ} → (written_row (Ok n), after) ≡ write_of (entry_image t c) buffer → Valid limit c
 unfolding entry_image write_of written_row
 valid_written t c buffer n e =
     by_test (is_frame c) (test_valid c)

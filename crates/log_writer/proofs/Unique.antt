@@ -3,7 +3,7 @@
 use mathlib.Core.List.{List}
 use Prim.Native.Nat.{ℕ}
 use Rattle.base.proofs.Unique.{OneAnswer}
-use Rattle.writing.specs.declared.Written.{Written}
+use Rattle.writing.specs.Writing.{Written}
 use Rattle.writing.proofs.Rows.{one_write}
 use Rattle.log_writer.proofs.put_start.Reads as put-start
 use Rattle.log_writer.proofs.put_entry.Reads as put-entry

@@ -1,5 +1,6 @@
 -- What the writer of an entry answers and leaves at each return.
 -- Assumes nothing.
+use Rattle.std.specs.Prelude.{Ok, Err}
 use mathlib.Core.Path.{◌≡◌, refl, sym, ap, ◌∙◌}
 use mathlib.Core.Bool.{true, false}
 use mathlib.Core.List.{List, [], ◌++◌, append_assoc, append-nil}
@@ -11,11 +12,11 @@ use lib.ListN.{length, length-append}
 use Rattle.base.specs.Parts.{fits_in, pasted, copied}
 use Rattle.base.proofs.Parts.{length_pasted, pasted_append, paste_all, copied_fits}
 use Rattle.refusals.specs.declared.Refusal.TheVariants.{BufferOverflow, InvalidFrame}
-use Rattle.writing.specs.declared.Written.TheVariants.{Wrote, Refused}
 use Rattle.writing.specs.Writing.{bytes, written_row, write_of}
 use Rattle.writing.proofs.Writing.{writes, overflows, refuses}
 use Rattle.groups.specs.Groups.{groups}
 use Rattle.groups.specs.Writing.{put_of}
+use Rattle.groups.proofs.Steps.{groups_few}
 use Rattle.groups.proofs.Laws.{put_fits, put_front}
 use Rattle.kit_log.specs.Entry.{entry_bytes, entries_bytes, log_bytes}
 use Rattle.log_writer.specs.Writer.{start_image, is_frame, entry_image}
@@ -28,11 +29,15 @@ start_is = append-nil (groups 1)
 pub start_written : {row after : List ℕ} (out : List ℕ) → (row, after) ≡ put_of 1 0 out → (row, after) ≡ write_of start_image out
 start_written out e = e ∙ put_front 1 out ∙ ap (λ (l : List ℕ). write_of (bytes l) out) (sym start_is)
 
+-- no number of 64 bits has more groups
+pub few : (n : ℕ) → length (groups n) ≤ n + 1
+few n = groups_few n
+
 module _ (t : ℕ) (c out : List ℕ) where
   abbrev pub entry_of : List ℕ
   entry_of = entry_bytes (record { seconds = t; frame = c })
 
-  pub entry_refused : is_frame c ≡ false → (written_row (Refused InvalidFrame), out) ≡ write_of (entry_image t c) out
+  pub entry_refused : is_frame c ≡ false → (written_row (Err InvalidFrame), out) ≡ write_of (entry_image t c) out
   unfolding entry_image
   entry_refused e = rw e (refuses InvalidFrame out)
 
@@ -42,7 +47,7 @@ module _ (t : ℕ) (c out : List ℕ) where
     unfolding entry_bytes
     entry_long = omega (arith, length-append (groups t) (groups (length c) ++ c), length-append (groups (length c)) c)
 
-    pub entry_short : fits_in (length out) (k + l) (length c) ≡ false → (written_row (Refused BufferOverflow), out) ≡ write_of (entry_image t c) out
+    pub entry_short : fits_in (length out) (k + l) (length c) ≡ false → (written_row (Err BufferOverflow), out) ≡ write_of (entry_image t c) out
     unfolding entry_image
     entry_short f = rw whole (overflows entry_of out (k + l + length c) entry_long (leb-false (k + l + length c) (length out) f))
 
@@ -73,6 +78,6 @@ module _ (t : ℕ) (c out : List ℕ) where
           ∙ ap (pasted out 0) (append_assoc xs ys c)
 
       pub entry_written : (row₁, a) ≡ put_of t 0 out → (row₂, b) ≡ put_of (length c) k a → d ≡ copied b (k + l) c (length c)
-          → (written_row (Wrote (k + l + length c)), d) ≡ write_of (entry_image t c) out
+          → (written_row (Ok (k + l + length c)), d) ≡ write_of (entry_image t c) out
       unfolding entry_image
       entry_written put₁ put₂ copies = rw (whole, entry_left put₁ put₂ copies) (writes entry_of out (k + l + length c) entry_long fits)

@@ -10,32 +10,33 @@ use base::{copy_in, fits};
 use refusals::Refusal;
 use stream::LIMIT;
 use valid::is_valid;
-use writing::Written;
 
 // The start of a log: the number 1.
-pub fn put_start(out: &mut [u8]) -> Written
+pub fn put_start(out: &mut [u8]) -> Result<usize, Refusal>
     ensures { (written_row result, out.new) ≡ write_of start_image out.old }
 {
     groups::put(1, out, 0)
 }
 
 // One entry: the seconds since the entry before, the length of the frame, and the frame, which is one whole valid frame.
-pub fn put_entry(seconds: u32, frame: &[u8], out: &mut [u8]) -> Written
+#[tactic(auto, using(crate::proofs::Frames::as_tested, crate::proofs::Writes::entry_refused, crate::proofs::Writes::entry_short, crate::proofs::Writes::room, crate::proofs::Writes::few))]
+pub fn put_entry(seconds: u32, frame: &[u8], out: &mut [u8]) -> Result<usize, Refusal>
     ensures { (written_row result, out.new) ≡ write_of (entry_image seconds frame.now) out.old }
 {
     if !is_valid(LIMIT, frame) {
-        return Written::Refused(Refusal::InvalidFrame);
+        return Err(Refusal::InvalidFrame);
     }
     let n = frame.len();
-    let since = seconds as u64;
+    let since = u64::from(seconds);
     let length = n as u64;
     let behind = groups::size(since);
     let head = behind + groups::size(length);
     if !fits(out.len(), head, n) {
-        return Written::Refused(Refusal::BufferOverflow);
+        return Err(Refusal::BufferOverflow);
     }
-    groups::put(since, out, 0);
-    groups::put(length, out, behind);
+    // there is room, so neither is refused
+    let _ = groups::put(since, out, 0);
+    let _ = groups::put(length, out, behind);
     copy_in(out, head, frame, n);
-    Written::Wrote(head + n)
+    Ok(head + n)
 }

@@ -1,21 +1,24 @@
 -- A raw channel value x means (x − 992) · 5 / 8 + 1500 microseconds, as an f32 (RULES 12): read from the float's own bits, its exact number times 8
 -- is 5 x + 7040, for x up to 2047.
 -- Assumes nothing.
-use Rattle.std.specs.Prelude.{◌≡◌, List, [], ◌∷◌, ◌⊎◌, ℕ, ◌+◌, ◌*◌, ◌/◌, ◌%◌, ◌^◌, ◌<◌, ◌≤◌}
+use Rattle.std.specs.Prelude.{◌≡◌, List, [], ◌∷◌, ◌⊎◌, ℕ, ◌+◌, ◌*◌, ◌/◌, ◌%◌, ◌^◌, ◌<◌, ◌≤◌, Ok, Err, Result}
 use Rattle.std.specs.Float.{binary32}
-use Rattle.std.specs.Float.Ieee.{to_bits}
+use Rattle.std.specs.Float.Ieee.{Float, to_bits}
 use Rattle.refusals.specs.Row.{row_of}
 use Rattle.refusals.specs.declared.Refusal.TheVariants.{ChannelRange}
-use Rattle.micros.specs.declared.Microseconds.{Microseconds}
-use Rattle.micros.specs.declared.Microseconds.TheVariants.{Exact, Refused}
+use Rattle.refusals.specs.declared.Refusal.{Refusal}
+
+-- exactly that many microseconds, or a refusal
+abbrev pub Microseconds : Type 0
+Microseconds = Result Float Refusal
 
 -- what is said, as a row: 0 and the float's own bits, or the refusal's number and what it carries
 abbrev pub exact_row : ℕ → List ℕ
 exact_row bits = 0 ∷ bits ∷ []
 
 unfoldable pub microseconds_row : Microseconds → List ℕ
-microseconds_row (Exact f) = exact_row (to_bits binary32 f)
-microseconds_row (Refused r) = row_of r
+microseconds_row (Ok f) = exact_row (to_bits binary32 f)
+microseconds_row (Err r) = row_of r
 
 -- The bits of an f32, as whole numbers: the sign is bit 31, the exponent's field e is bits 23 to 30, the digits t are bits 0 to 22.
 -- With the sign clear and e from 1 to 254 they stand for the number (2 ^ 23 + t) * 2 ^ e / 2 ^ 150. Eight times that is n:

@@ -3,7 +3,7 @@
 use mathlib.Core.Path.{◌≡◌, refl, sym, ◌∙◌}
 use mathlib.Core.Bool.{true, false, true≢false}
 use mathlib.Core.List.{List}
-use Prim.Native.Nat.{ℕ, ◌-◌, ◌≤◌}
+use Prim.Native.Nat.{ℕ, ◌+◌, ◌-◌, ◌≤◌}
 use native.Mathlib.Omega.{arith}
 use lib.ListN.{length}
 use Rattle.base.proofs.Tests.{by_test}
@@ -13,7 +13,10 @@ use Rattle.reading.specs.History.{answered}
 use Rattle.reading.specs.Positions.{behind, is_within}
 use Rattle.stream.specs.Places.{held_in}
 use Rattle.stream.specs.Step.{is_span, Steps}
+use Rattle.stream.specs.declared.step.Moved.{Moved}
 use Rattle.stream.proofs.Bounds.{taken_bound, still_span}
+use Rattle.numbered.proofs.Within.{within}
+use Rattle.numbered.proofs.Counts.{Sums, sums, position_is}
 use Rattle.numbered.specs.declared.Advanced.{Advanced}
 use Rattle.numbered.specs.Step.{stays, StepsAt}
 
@@ -75,3 +78,13 @@ module _ {m : ℕ} {before : List ℕ} {start end position : ℕ} {input : List 
       by_test (is_within position (end - start) (length input))
       (λ fits. still_span (as_steps good fits s) good)
       (λ far. rw (s.beyond good far).0 good)
+
+-- of a call that moves: that the code's sums have room, and that its position is the one behind the answer
+module _ {before : List ℕ} {start end position : ℕ} {input after : List ℕ} {r : Moved} (good : is_span (length before) start end ≡ true)
+    (fits : is_within position (end - start) (length input) ≡ true) (steps : Steps (length before) before start end input after r) where
+  pub summed : Sums position start end r
+  summed = sums {before = before} refl steps.same good (steps.moves good) position (within _ _ _ fits)
+
+  pub stepped_at : StepsAt (length before) before start end position input after
+      (record { moved = r; position = position + ((end - start) + r.taken - (r.end - r.start)) })
+  stepped_at = moved_at good fits steps (position_is {before = before} refl steps.same good (steps.moves good) position)

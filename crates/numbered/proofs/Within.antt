@@ -1,12 +1,9 @@
 -- What the test of a position says, and how the code makes it.
 -- Assumes nothing.
-use mathlib.Core.Path.{◌≡◌, sym, ◌∙◌}
+use mathlib.Core.Path.{◌≡◌}
 use mathlib.Core.Bool.{true, false}
-use Prim.Native.Nat.{ℕ, ◌+◌, ◌-◌, ◌≤◌, ◌<◌}
-use native.Mathlib.Omega.{arith}
-use borrow.Author.Tests.{leb-true, leb-false, le-leb, lt-leb}
-use lib.Dec.{leb}
-use Rattle.base.proofs.Tests.{by_test}
+use Prim.Native.Nat.{ℕ, ◌+◌, ◌≤◌, ◌<◌}
+use borrow.Author.Tests.{leb-true, le-leb, lt-leb}
 use Rattle.reading.specs.Positions.{greatest, is_within}
 
 module _ (p held input : ℕ) where
@@ -21,13 +18,3 @@ module _ (p held input : ℕ) where
   pub not_within : greatest < p + held + input → is_within p held input ≡ false
   unfolding is_within
   not_within h = lt-leb (p + held + input) greatest h
-
-  -- what is left behind the position is too little for the input, or has room for it and then for the held bytes, or not
-  pub too_little : p ≤ greatest → greatest - p < input → false ≡ is_within p held input
-  too_little fits h = sym (not_within (omega arith))
-
-  pub room_left : p ≤ greatest → input ≤ greatest - p → leb held (greatest - p - input) ≡ is_within p held input
-  room_left fits room =
-      by_test (leb held (greatest - p - input))
-      (λ t. t ∙ sym (is_within_lem (omega (arith, leb-true held (greatest - p - input) t))))
-      (λ t. t ∙ sym (not_within (omega (arith, leb-false held (greatest - p - input) t))))

@@ -24,15 +24,13 @@ pub struct Answered {
 }
 
 // Whether all bytes can be numbered: those held from a position on, and those offered. No sum is made that might have no room.
+#[tactic(auto, unfolding(reading::specs::Positions::is_within))]
 pub fn is_within(position: u64, held: usize, input: usize) -> bool
     ensures { result ≡ is_within position held input }
 {
     let left = u64::MAX - position;
     let more = input as u64;
-    if left < more {
-        return false;
-    }
-    held as u64 <= left - more
+    more <= left && held as u64 <= left - more
 }
 
 // Nothing is taken or changed.
@@ -50,7 +48,8 @@ fn stay(start: usize, end: usize, position: u64, refusal: Refusal) -> Advanced
     }
 }
 
-// One call over lent places, whose count is the limit of a frame. What it dropped is what was held and taken, less what is held.
+// One call over lent places, whose count is the limit of a frame. What it dropped is what was held and taken, less what is held. Start, end and position come
+// as their keeper has them, and any are answered.
 pub fn step_at(places: &mut [u8], start: usize, end: usize, position: u64, input: &[u8]) -> Advanced
     ensures { StepsAt (length places.old) places.old start end position input.now places.new result }
 {

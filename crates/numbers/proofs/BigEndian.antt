@@ -7,7 +7,8 @@ use native.Mathlib.Numerals.{add-one}
 use native.Mathlib.Omega.{arith}
 use lib.Arith.{digits_lt, digits_div, digits_mod, mod-mul}
 use lib.Dec.{lit<}
-use lib.ListN.{length, length-append, length-take}
+use lib.ListN.{length, get_or, take, length-append, length-take}
+use lib.Seq.{take-suc}
 use Rattle.base.specs.Parts.{part}
 use Rattle.base.proofs.Parts.{bytes_part}
 use lib.Pow.{pow-add}
@@ -88,3 +89,11 @@ pub be_of_part_lt : (s : List ℕ) (at w : ℕ) → Bytes s → be_of (part s at
 be_of_part_lt s at w b =
     let most : length (part s at w) ≤ w = simp length-take (omega arith) in
     lt_of_lt_of_le (be_of_lt (part s at w) (bytes_part s at w b)) (pow-le-pow_right (lit< tt) most)
+
+-- the first n bytes make a number of as many bytes, and of more
+pub be_of_front_lt : (s : List ℕ) (n most : ℕ) → Bytes s → n ≤ most → be_of (take n s) < 256 ^ most
+be_of_front_lt s n most b h = lt_of_lt_of_le (be_of_part_lt s 0 n b) (pow-le-pow_right (lit< tt) h)
+
+-- .. and one byte more
+pub be_of_more : (s : List ℕ) (i : ℕ) → i < length s → be_of (take (i + 1) s) ≡ be_of (take i s) * 256 + get_or s i 0
+be_of_more s i h = rw (add-one, take-suc s i 0 h, be_of_snoc)

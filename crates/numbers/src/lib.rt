@@ -8,34 +8,23 @@ ghost use Rattle.numbers.specs.BigEndian.{be_of, bytes_of};
 ghost use Rattle.numbers.specs.TwosComplement.{signed_of, twos_of};
 ghost use Rattle.base.specs.Parts.{part, pasted, placed};
 
-fn wide(b: u8) -> u64
-    ensures { result ≡ b }
-{
-    b as u64
-}
+use base::{fits, part_of};
 
 // The width from 1 to 4 that is nearest.
 fn width_of(width: usize) -> usize
     ensures { result ≡ width_of width }
 {
-    if width < 1 {
-        return 1;
-    }
-    if 4 < width {
-        return 4;
-    }
-    width
+    width.clamp(1, 4)
 }
 
-fn read(s: &[u8], at: usize, width: usize) -> u64
-    requires { (width ≤ 8) × (at + width ≤ length s.now) }
-    ensures { result ≡ be_of (part s.now at width) }
+// The number that these bytes are.
+fn read(bytes: &[u8]) -> u64
+    requires { length bytes.now ≤ 8 }
+    ensures { result ≡ be_of bytes.now }
 {
-    let mut n: u64 = 0;
-    let mut i = 0;
-    while i < width {
-        n = n * 256 + wide(s[at + i]);
-        i += 1;
+    let mut n = 0;
+    for &byte in bytes {
+        n = n * 256 + u64::from(byte);
     }
     n
 }
@@ -45,22 +34,21 @@ fn read_some(s: &[u8], at: usize, width: usize) -> u64
     requires { width ≤ 8 }
     ensures { result ≡ be_of (part s.now at width) }
 {
-    if base::fits(s.len(), at, width) {
-        return read(s, at, width);
+    // Where all are there, as many as the caller's width: the compiler then reads them without a loop.
+    if fits(s.len(), at, width) {
+        return read(&s[at..at + width]);
     }
-    if s.len() < at {
-        return 0;
-    }
-    read(s, at, s.len() - at)
+    read(part_of(s, at, width))
 }
 
-// The unsigned number of the `width` bytes from `at`, or of those that are there.
+// The unsigned number of the `width` bytes from `at`, or of those that are there. A place beside the slice, and no part of it: one past the end is answered.
 pub fn get(s: &[u8], at: usize, width: usize) -> u32
     ensures { result ≡ be_of (part s.now at (width_of width)) }
 {
     read_some(s, at, width_of(width)) as u32
 }
 
+// One line for each type, over the one reader: numbers of 24 bits have no type of their own, so a trait would need as many impls, and two types more.
 pub fn get_u8(s: &[u8], at: usize) -> u8
     ensures { result ≡ be_of (part s.now at 1) }
 {
@@ -97,11 +85,9 @@ fn write(out: &mut [u8], at: usize, width: usize, n: u64)
     ensures { out.new ≡ pasted out.old at (bytes_of width n) }
 {
     let mut rest = n;
-    let mut left = width;
-    while 0 < left {
-        left -= 1;
-        out[at + left] = (rest % 256) as u8;
-        rest = rest / 256;
+    for i in (0..width).rev() {
+        out[at + i] = (rest % 256) as u8;
+        rest /= 256;
     }
 }
 
@@ -110,21 +96,21 @@ pub fn put(out: &mut [u8], at: usize, width: usize, n: u32)
     ensures { out.new ≡ placed out.old at (bytes_of (width_of width) n) }
 {
     let whole = width_of(width);
-    if base::fits(out.len(), at, whole) {
-        write(out, at, whole, n as u64);
+    if fits(out.len(), at, whole) {
+        write(out, at, whole, u64::from(n));
     }
 }
 
 pub fn put_u8(out: &mut [u8], at: usize, v: u8)
     ensures { out.new ≡ placed out.old at (bytes_of 1 v) }
 {
-    put(out, at, 1, v as u32);
+    put(out, at, 1, u32::from(v));
 }
 
 pub fn put_u16(out: &mut [u8], at: usize, v: u16)
     ensures { out.new ≡ placed out.old at (bytes_of 2 v) }
 {
-    put(out, at, 2, v as u32);
+    put(out, at, 2, u32::from(v));
 }
 
 // The low 24 bits of `v`.
@@ -143,7 +129,7 @@ pub fn put_u32(out: &mut [u8], at: usize, v: u32)
 pub fn put_u64(out: &mut [u8], at: usize, v: u64)
     ensures { out.new ≡ placed out.old at (bytes_of 8 v) }
 {
-    if base::fits(out.len(), at, 8) {
+    if fits(out.len(), at, 8) {
         write(out, at, 8, v);
     }
 }
@@ -153,12 +139,7 @@ fn half(width: usize) -> u32
     requires { (0 < width) × (width ≤ 4) }
     ensures { result ≡ 256 ^ width / 2 }
 {
-    match width {
-        1 => 0x80,
-        2 => 0x8000,
-        3 => 0x80_0000,
-        _ => 0x8000_0000,
-    }
+    1 << (8 * width - 1)
 }
 
 // The number that `n` stands for in two's complement of `width` bytes.
@@ -209,11 +190,7 @@ pub fn get_i32(s: &[u8], at: usize) -> i32
 fn bits(v: i32) -> u32
     ensures { result ≡ twos_of 4 v }
 {
-    if v < 0 {
-        0xFFFF_FFFF - ((-1 - v) as u32)
-    } else {
-        v as u32
-    }
+    v.cast_unsigned()
 }
 
 // Writes the low `width` bytes of `v` in two's complement, as `put`.
@@ -226,13 +203,13 @@ pub fn put_signed(out: &mut [u8], at: usize, width: usize, v: i32)
 pub fn put_i8(out: &mut [u8], at: usize, v: i8)
     ensures { out.new ≡ placed out.old at (bytes_of 1 (twos_of 1 v)) }
 {
-    put_signed(out, at, 1, v as i32);
+    put_signed(out, at, 1, i32::from(v));
 }
 
 pub fn put_i16(out: &mut [u8], at: usize, v: i16)
     ensures { out.new ≡ placed out.old at (bytes_of 2 (twos_of 2 v)) }
 {
-    put_signed(out, at, 2, v as i32);
+    put_signed(out, at, 2, i32::from(v));
 }
 
 // The low 24 bits of `v`.

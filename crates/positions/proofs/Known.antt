@@ -1,18 +1,16 @@
 -- A record is known by its numbers, and a reader's answer by what is decoded: no two of them show the same.
 -- Assumes nothing.
 use mathlib.Core.List.{List}
-use mathlib.Core.Path.{◌≡◌, refl, sym, ap, ◌∙◌}
+use mathlib.Core.Path.{◌≡◌, refl}
 use lib.IntN.{ℤ}
 use Rattle.layout.specs.Decoded.{Decoded}
-use Rattle.layout.proofs.Known.{whole, natural, known_by, same_numbers, same_refusal, not_both}
+use Rattle.layout.proofs.Known.{whole, natural, known_by, answer_known}
 use Rattle.positions.specs.Gps.{gps_values, gps_decoded}
 use Rattle.positions.specs.GpsExtended.{gps_extended_values, gps_extended_decoded}
 use Rattle.positions.specs.declared.gps.Gps.{Gps}
-use Rattle.positions.specs.declared.gps.GpsRead.{GpsRead}
-use Rattle.positions.specs.declared.gps.GpsRead.TheVariants as gps
+use Rattle.positions.specs.Gps.{GpsRead}
 use Rattle.positions.specs.declared.gps_extended.GpsExtended.{GpsExtended}
-use Rattle.positions.specs.declared.gps_extended.GpsExtendedRead.{GpsExtendedRead}
-use Rattle.positions.specs.declared.gps_extended.GpsExtendedRead.TheVariants as gps-extended
+use Rattle.positions.specs.GpsExtended.{GpsExtendedRead}
 
 -- ---- gps
 
@@ -30,15 +28,8 @@ pub gps_known : {x y : Gps} {vs : List ℤ} → gps_values x ≡ vs → gps_valu
 unfolding gps_values
 gps_known = known_by gps_values gps_of (λ x. refl)
 
-gps_cases : (r r' : GpsRead) → gps_decoded r ≡ gps_decoded r' → r ≡ r'
-unfolding gps_decoded
-gps_cases (gps.Record x) (gps.Record y) e = ap gps.Record (gps_known (same_numbers e) refl)
-gps_cases (gps.Record x) (gps.Refused s) e = absurd (not_both s (sym e))
-gps_cases (gps.Refused r) (gps.Record y) e = absurd (not_both r e)
-gps_cases (gps.Refused r) (gps.Refused s) e = ap gps.Refused (same_refusal e)
-
 pub gps_read_known : {r r' : GpsRead} {a : Decoded} → gps_decoded r ≡ a → gps_decoded r' ≡ a → r ≡ r'
-gps_read_known {r} {r'} p q = gps_cases r r' (p ∙ sym q)
+gps_read_known = answer_known gps_values (λ x y e. gps_known e refl)
 
 -- ---- gps extended
 
@@ -62,12 +53,5 @@ pub gps_extended_known : {x y : GpsExtended} {vs : List ℤ} → gps_extended_va
 unfolding gps_extended_values
 gps_extended_known = known_by gps_extended_values gps_extended_of (λ x. refl)
 
-gps_extended_cases : (r r' : GpsExtendedRead) → gps_extended_decoded r ≡ gps_extended_decoded r' → r ≡ r'
-unfolding gps_extended_decoded
-gps_extended_cases (gps-extended.Record x) (gps-extended.Record y) e = ap gps-extended.Record (gps_extended_known (same_numbers e) refl)
-gps_extended_cases (gps-extended.Record x) (gps-extended.Refused s) e = absurd (not_both s (sym e))
-gps_extended_cases (gps-extended.Refused r) (gps-extended.Record y) e = absurd (not_both r e)
-gps_extended_cases (gps-extended.Refused r) (gps-extended.Refused s) e = ap gps-extended.Refused (same_refusal e)
-
 pub gps_extended_read_known : {r r' : GpsExtendedRead} {a : Decoded} → gps_extended_decoded r ≡ a → gps_extended_decoded r' ≡ a → r ≡ r'
-gps_extended_read_known {r} {r'} p q = gps_extended_cases r r' (p ∙ sym q)
+gps_extended_read_known = answer_known gps_extended_values (λ x y e. gps_extended_known e refl)

@@ -4,19 +4,19 @@ use Prim.Native.Nat.{ℕ}
 use mathlib.Core.List.{List}
 use lib.IntN.{ℤ}
 use Rattle.base.proofs.Unique.{OneAnswer, same}
-use Rattle.writing.specs.declared.Written.{Written}
+use Rattle.writing.specs.Writing.{Written}
 use Rattle.writing.proofs.Rows.{one_write}
 use Rattle.positions.specs.declared.gps.Gps.{Gps}
-use Rattle.positions.specs.declared.gps.GpsRead.{GpsRead}
+use Rattle.positions.specs.Gps.{GpsRead}
 use Rattle.positions.specs.declared.gps_extended.GpsExtended.{GpsExtended}
-use Rattle.positions.specs.declared.gps_extended.GpsExtendedRead.{GpsExtendedRead}
+use Rattle.positions.specs.GpsExtended.{GpsExtendedRead}
 use Rattle.positions.proofs.gps.Gps.new.Reads as gps-new
-use Rattle.positions.proofs.gps.Gps.from_bytes.Reads as gps-from-bytes
-use Rattle.positions.proofs.gps.Gps.to_bytes.Reads as gps-to-bytes
+use Rattle.positions.proofs.gps.GpsCrsfPacket.from_bytes.Reads as gps-from-bytes
+use Rattle.positions.proofs.gps.GpsCrsfPacket.to_bytes.Reads as gps-to-bytes
 use Rattle.positions.proofs.gps.Gps.get_altitude_m.Reads as gps-get-altitude-m
 use Rattle.positions.proofs.gps_extended.GpsExtended.new.Reads as gps-extended-new
-use Rattle.positions.proofs.gps_extended.GpsExtended.from_bytes.Reads as gps-extended-from-bytes
-use Rattle.positions.proofs.gps_extended.GpsExtended.to_bytes.Reads as gps-extended-to-bytes
+use Rattle.positions.proofs.gps_extended.GpsExtendedCrsfPacket.from_bytes.Reads as gps-extended-from-bytes
+use Rattle.positions.proofs.gps_extended.GpsExtendedCrsfPacket.to_bytes.Reads as gps-extended-to-bytes
 use Rattle.positions.proofs.Known.{gps_known, gps_read_known, gps_extended_known, gps_extended_read_known}
 
 pub gps_new_one : OneAnswer {Seen = Gps} gps-new.Post (λ κs r s. r)

@@ -1,13 +1,11 @@
 -- GPS extended (RULES 10): a u8, eight i16 and three u8.
 -- Assumes nothing.
-use Rattle.std.specs.Prelude.{ℕ, List, [], ◌∷◌, ℤ, pos}
-use Rattle.refusals.specs.Row.{row_of}
+use Rattle.std.specs.Prelude.{ℕ, List, [], ◌∷◌, ℤ, pos, Result}
 use Rattle.writing.specs.Writing.{Image, bytes}
 use Rattle.layout.specs.Layout.{Field, signed, unsigned, record_bytes}
-use Rattle.layout.specs.Decoded.{Decoded, decoded, refused, read_of}
+use Rattle.layout.specs.Decoded.{Decoded, decoded_by, read_of}
 use Rattle.positions.specs.declared.gps_extended.GpsExtended.{GpsExtended}
-use Rattle.positions.specs.declared.gps_extended.GpsExtendedRead.{GpsExtendedRead}
-use Rattle.positions.specs.declared.gps_extended.GpsExtendedRead.TheVariants.{Record, Refused}
+use Rattle.refusals.specs.declared.Refusal.{Refusal}
 
 abbrev pub gps_extended_type : ℕ
 gps_extended_type = 0x06
@@ -22,9 +20,12 @@ gps_extended_values x =
     pos x.fix_type ∷ x.n_speed ∷ x.e_speed ∷ x.v_speed ∷ x.h_speed_acc ∷ x.track_acc
     ∷ x.alt_ellipsoid ∷ x.h_acc ∷ x.v_acc ∷ pos x.reserved ∷ pos x.h_dop ∷ pos x.v_dop ∷ []
 
-unfoldable pub gps_extended_decoded : GpsExtendedRead → Decoded
-gps_extended_decoded (Record x) = decoded (gps_extended_values x)
-gps_extended_decoded (Refused r) = refused (row_of r)
+-- the record, or a refusal: what the reader says
+abbrev pub GpsExtendedRead : Type 0
+GpsExtendedRead = Result GpsExtended Refusal
+
+abbrev pub gps_extended_decoded : GpsExtendedRead → Decoded
+gps_extended_decoded = decoded_by gps_extended_values
 
 abbrev pub gps_extended_read : List ℕ → Decoded
 gps_extended_read = read_of gps_extended_layout

@@ -1,2 +1,3 @@
 pub mod Gps
 pub mod GpsExtended
+pub mod Small

@@ -1,14 +1,14 @@
 // GPS (0x02), 15 bytes.
 ghost use Rattle.std.specs.Prelude.{◌≡◌, [], ◌∷◌, pos};
 ghost use Rattle.altitude.specs.Altitude.{metres_of};
-ghost use Rattle.writing.specs.Writing.{written_row, write_of};
-ghost use Rattle.positions.specs.Gps.{gps_values, gps_decoded, gps_read, gps_image};
+ghost use Rattle.positions.specs.Small.{gps_small};
+ghost use Rattle.positions.specs.Gps.{gps_values, gps_decoded, gps_type, gps_read, gps_image};
 
 use altitude::Metres;
+use layout::CrsfPacket;
 use refusals::Refusal;
-use writing::Written;
 
-#[derive(Clone, Copy)]
+#[derive(Clone, Copy, PartialEq, Eq)]
 pub struct Gps {
     // Degrees times 10^7.
     pub latitude: i32,
@@ -22,17 +22,8 @@ pub struct Gps {
     pub satellites: u8,
 }
 
-#[derive(Clone, Copy)]
-pub enum GpsRead {
-    Record(Gps),
-    Refused(Refusal),
-}
-
 impl Gps {
-    pub const PACKET_TYPE: u8 = 0x02;
-
-    pub const MIN_PAYLOAD_SIZE: usize = 15;
-
+    #[tactic(auto, unfolding(crate::specs::Gps::gps_values))]
     pub fn new(
         latitude: i32,
         longitude: i32,
@@ -58,13 +49,26 @@ impl Gps {
     {
         altitude::gps_altitude(self.altitude)
     }
+}
+
+impl CrsfPacket for Gps {
+    ghost PACKET_TYPE = { gps_type };
+
+    ghost image = { gps_image };
+
+    ghost reads = { λ payload r. gps_decoded r ≡ gps_read payload };
+
+    ghost small = { gps_small };
+
+    const PACKET_TYPE: u8 = 0x02;
+
+    const MIN_PAYLOAD_SIZE: usize = 15;
 
     // Bytes past the layout are ignored.
-    pub fn from_bytes(payload: &[u8]) -> GpsRead
-        ensures { gps_decoded result ≡ gps_read payload.now }
-    {
+    #[tactic(auto, unfolding(crate::specs::Gps::gps_values, layout::specs::Decoded::decoded_by))]
+    fn from_bytes(payload: &[u8]) -> Result<Self, Refusal> {
         if payload.len() < Self::MIN_PAYLOAD_SIZE {
-            return GpsRead::Refused(Refusal::InvalidPayloadLength);
+            return Err(Refusal::InvalidPayloadLength);
         }
         let latitude = numbers::get_i32(payload, 0);
         let longitude = numbers::get_i32(payload, 4);
@@ -72,7 +76,7 @@ impl Gps {
         let heading = numbers::get_u16(payload, 10);
         let altitude = numbers::get_u16(payload, 12);
         let satellites = numbers::get_u8(payload, 14);
-        GpsRead::Record(Gps {
+        Ok(Self {
             latitude,
             longitude,
             groundspeed,
@@ -82,11 +86,9 @@ impl Gps {
         })
     }
 
-    pub fn to_bytes(self, buffer: &mut [u8]) -> Written
-        ensures { (written_row result, buffer.new) ≡ write_of (gps_image self) buffer.old }
-    {
+    fn to_bytes(self, buffer: &mut [u8]) -> Result<usize, Refusal> {
         if buffer.len() < Self::MIN_PAYLOAD_SIZE {
-            return Written::Refused(Refusal::BufferOverflow);
+            return Err(Refusal::BufferOverflow);
         }
         numbers::put_i32(buffer, 0, self.latitude);
         numbers::put_i32(buffer, 4, self.longitude);
@@ -94,6 +96,6 @@ impl Gps {
         numbers::put_u16(buffer, 10, self.heading);
         numbers::put_u16(buffer, 12, self.altitude);
         numbers::put_u8(buffer, 14, self.satellites);
-        Written::Wrote(Self::MIN_PAYLOAD_SIZE)
+        Ok(Self::MIN_PAYLOAD_SIZE)
     }
 }

@@ -2,13 +2,13 @@
 ghost use Rattle.std.specs.Prelude.{◌≡◌, [], ◌∷◌, ◌≤◌, pos, length, take, drop};
 ghost use Rattle.base.specs.Parts.{pasted};
 ghost use Rattle.layout.specs.Layout.{size_of, record_bytes};
-ghost use Rattle.writing.specs.Writing.{written_row, write_of};
-ghost use Rattle.positions.specs.GpsExtended.{gps_extended_layout, gps_extended_values, gps_extended_decoded, gps_extended_read, gps_extended_image};
+ghost use Rattle.positions.specs.Small.{gps_extended_small};
+ghost use Rattle.positions.specs.GpsExtended.{gps_extended_layout, gps_extended_values, gps_extended_decoded, gps_extended_type, gps_extended_read, gps_extended_image};
 
+use layout::CrsfPacket;
 use refusals::Refusal;
-use writing::Written;
 
-#[derive(Clone, Copy)]
+#[derive(Clone, Copy, PartialEq, Eq)]
 pub struct GpsExtended {
     // Quality of the fix.
     pub fix_type: u8,
@@ -31,17 +31,8 @@ pub struct GpsExtended {
     pub v_dop: u8,
 }
 
-#[derive(Clone, Copy)]
-pub enum GpsExtendedRead {
-    Record(GpsExtended),
-    Refused(Refusal),
-}
-
 impl GpsExtended {
-    pub const PACKET_TYPE: u8 = 0x06;
-
-    pub const MIN_PAYLOAD_SIZE: usize = 20;
-
+    #[tactic(auto, unfolding(crate::specs::GpsExtended::gps_extended_values))]
     pub fn new(
         fix_type: u8,
         n_speed: i16,
@@ -76,40 +67,6 @@ impl GpsExtended {
         }
     }
 
-    pub fn from_bytes(payload: &[u8]) -> GpsExtendedRead
-        ensures { gps_extended_decoded result ≡ gps_extended_read payload.now }
-    {
-        if payload.len() < Self::MIN_PAYLOAD_SIZE {
-            return GpsExtendedRead::Refused(Refusal::InvalidPayloadLength);
-        }
-        let fix_type = numbers::get_u8(payload, 0);
-        let n_speed = numbers::get_i16(payload, 1);
-        let e_speed = numbers::get_i16(payload, 3);
-        let v_speed = numbers::get_i16(payload, 5);
-        let h_speed_acc = numbers::get_i16(payload, 7);
-        let track_acc = numbers::get_i16(payload, 9);
-        let alt_ellipsoid = numbers::get_i16(payload, 11);
-        let h_acc = numbers::get_i16(payload, 13);
-        let v_acc = numbers::get_i16(payload, 15);
-        let reserved = numbers::get_u8(payload, 17);
-        let h_dop = numbers::get_u8(payload, 18);
-        let v_dop = numbers::get_u8(payload, 19);
-        GpsExtendedRead::Record(GpsExtended {
-            fix_type,
-            n_speed,
-            e_speed,
-            v_speed,
-            h_speed_acc,
-            track_acc,
-            alt_ellipsoid,
-            h_acc,
-            v_acc,
-            reserved,
-            h_dop,
-            v_dop,
-        })
-    }
-
     // The first six fields, bytes 0 to 10.
     fn put_speeds(self, buffer: &mut [u8])
         requires { size_of gps_extended_layout ≤ length buffer.old }
@@ -137,15 +94,60 @@ impl GpsExtended {
         numbers::put_u8(buffer, 18, self.h_dop);
         numbers::put_u8(buffer, 19, self.v_dop);
     }
+}
 
-    pub fn to_bytes(self, buffer: &mut [u8]) -> Written
-        ensures { (written_row result, buffer.new) ≡ write_of (gps_extended_image self) buffer.old }
-    {
+impl CrsfPacket for GpsExtended {
+    ghost PACKET_TYPE = { gps_extended_type };
+
+    ghost image = { gps_extended_image };
+
+    ghost reads = { λ payload r. gps_extended_decoded r ≡ gps_extended_read payload };
+
+    ghost small = { gps_extended_small };
+
+    const PACKET_TYPE: u8 = 0x06;
+
+    const MIN_PAYLOAD_SIZE: usize = 20;
+
+    #[tactic(auto, unfolding(crate::specs::GpsExtended::gps_extended_values, layout::specs::Decoded::decoded_by))]
+    fn from_bytes(payload: &[u8]) -> Result<Self, Refusal> {
+        if payload.len() < Self::MIN_PAYLOAD_SIZE {
+            return Err(Refusal::InvalidPayloadLength);
+        }
+        let fix_type = numbers::get_u8(payload, 0);
+        let n_speed = numbers::get_i16(payload, 1);
+        let e_speed = numbers::get_i16(payload, 3);
+        let v_speed = numbers::get_i16(payload, 5);
+        let h_speed_acc = numbers::get_i16(payload, 7);
+        let track_acc = numbers::get_i16(payload, 9);
+        let alt_ellipsoid = numbers::get_i16(payload, 11);
+        let h_acc = numbers::get_i16(payload, 13);
+        let v_acc = numbers::get_i16(payload, 15);
+        let reserved = numbers::get_u8(payload, 17);
+        let h_dop = numbers::get_u8(payload, 18);
+        let v_dop = numbers::get_u8(payload, 19);
+        Ok(Self {
+            fix_type,
+            n_speed,
+            e_speed,
+            v_speed,
+            h_speed_acc,
+            track_acc,
+            alt_ellipsoid,
+            h_acc,
+            v_acc,
+            reserved,
+            h_dop,
+            v_dop,
+        })
+    }
+
+    fn to_bytes(self, buffer: &mut [u8]) -> Result<usize, Refusal> {
         if buffer.len() < Self::MIN_PAYLOAD_SIZE {
-            return Written::Refused(Refusal::BufferOverflow);
+            return Err(Refusal::BufferOverflow);
         }
         self.put_speeds(buffer);
         self.put_places(buffer);
-        Written::Wrote(Self::MIN_PAYLOAD_SIZE)
+        Ok(Self::MIN_PAYLOAD_SIZE)
     }
 }

@@ -1,2 +1,3 @@
--- `Unique`: one answer.
+-- `Named`: the name of a file. `Unique`: one answer.
+pub mod Named
 pub mod Unique

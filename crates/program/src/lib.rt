@@ -8,12 +8,13 @@ mod cause;
 mod source;
 pub mod words;
 
-ghost use Rattle.std.specs.Prelude.{◌≡◌, ◌≤◌, OnOk};
+ghost use Rattle.std.specs.Prelude.{◌≡◌, ◌≤◌, OnOk, IfOk};
+ghost use Rattle.std.specs.Result.{is_ok};
 ghost use Rattle.program.specs.Counts.{IsPrefixLen};
 ghost use Rattle.std.specs.Io.KnownBytes.{Appends};
 ghost use Rattle.program.specs.Answers.{printed};
 
-pub use argument::{Arguments, Asked, asked_by, is_given, read_arguments};
+pub use argument::{Asked, asked_by, is_given, read_arguments};
 pub use source::{Input, Source, open_source};
 use std::io;
 use std::io::{ErrorKind, Read, Write};
@@ -25,11 +26,11 @@ pub struct Console<'a> {
     pub name: &'a [u8],
 }
 
-// What a read brought: that many bytes at the front of the piece, none where the input has ended or the read has failed.
+// A read or a write that failed. The cause is told by then.
 #[derive(Clone, Copy)]
-pub struct Came {
-    pub count: usize,
-    pub has_failed: bool,
+pub enum Failed {
+    Read,
+    Write,
 }
 
 // Writes all of the bytes.
@@ -40,43 +41,37 @@ pub fn write_text<W: Write>(to: &mut W, bytes: &[u8]) -> io::Result<()>
 }
 
 // .. to standard output. Where that fails the cause is told.
-pub fn print(console: &Console<'_>, text: &[u8]) -> bool {
+pub fn print(console: &Console<'_>, text: &[u8]) -> Result<(), Failed> {
     match write_text(&mut console.rt.stdout(), text) {
-        Ok(()) => true,
+        Ok(()) => Ok(()),
         Err(error) => {
             tell(console, b"standard output", error);
-            false
+            Err(Failed::Write)
         }
     }
 }
 
-// One read. Where it fails the cause is told. The loop counts its turns, to a number that no run uses up.
-pub fn read_some(console: &Console<'_>, input: &mut Input<'_>, piece: &mut [u8]) -> Came
-    ensures { IsPrefixLen result.count piece.new }
+// One read: how many bytes it brought to the front of the piece, none where the input has ended. Where it fails the cause is told. The loop counts its
+// turns, to a number that no run uses up.
+pub fn read_some(
+    console: &Console<'_>,
+    input: &mut Input<'_>,
+    piece: &mut [u8],
+) -> Result<usize, Failed>
+    ensures { IfOk result (λ count. IsPrefixLen count piece.new) }
 {
     for _ in 0..u64::MAX {
         match input.source.read(piece) {
-            Ok(count) => {
-                return Came {
-                    count,
-                    has_failed: false,
-                };
-            }
+            Ok(count) => return Ok(count),
             Err(error) => {
                 if error.kind() != ErrorKind::Interrupted {
                     tell(console, input.name, error);
-                    return Came {
-                        count: 0,
-                        has_failed: true,
-                    };
+                    return Err(Failed::Read);
                 }
             }
         }
     }
-    Came {
-        count: 0,
-        has_failed: true,
-    }
+    Err(Failed::Read)
 }
 
 // Text on standard error. What becomes of it changes nothing.
@@ -106,11 +101,11 @@ pub fn open<'a>(console: &Console<'_>, path: &'a [u8]) -> Option<Input<'a>> {
 }
 
 // The status of a text that was printed or not.
-pub fn after_print(is_written: bool) -> u8
-    ensures { (result ≡ printed is_written) × (result ≤ 1) }
+pub fn after_print(written: Result<(), Failed>) -> u8
+    ensures { (result ≡ printed (is_ok written)) × (result ≤ 1) }
 {
-    if is_written {
-        return 0;
+    match written {
+        Ok(()) => 0,
+        Err(_) => 1,
     }
-    1
 }

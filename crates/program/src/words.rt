@@ -5,8 +5,5 @@ ghost use Rattle.program.specs.Words.{is_option};
 pub fn is_option(word: &[u8]) -> bool
     ensures { result ≡ is_option word.now }
 {
-    if word.len() < 2 {
-        return false;
-    }
-    word[0] == b'-'
+    matches!(word, [b'-', _, ..])
 }

@@ -1,6 +1,7 @@
 -- Batteries (RULES 10): a capacity that 24 bits don't hold is refused, and every other record is written; whatever was written is read back; and
 -- writing after reading gives the payload, for payloads of 8 bytes and those of 9 whose id is not 0.
 -- Assumes nothing.
+use Rattle.std.specs.Prelude.{Ok}
 use Prim.Native.Nat.{ℕ, ◌≤◌, ◌<◌}
 use mathlib.Core.List.{List, [], ◌∷◌, ◌++◌, append-nil}
 use mathlib.Core.Logic.{⊎_elim}
@@ -22,10 +23,9 @@ use Rattle.numbers.proofs.BigEndian.{be_of_lt}
 use Rattle.layout.specs.Layout.{signed, unsigned, size_of, HoldsAll, read_from, read_as, record_bytes}
 use Rattle.writing.specs.Writing.{bytes, refused}
 use Rattle.layout.proofs.Fields.{length_record_bytes, read_as_written, written_payload}
-use Rattle.layout.specs.Decoded.{Decoded, decoded, too_short}
+use Rattle.layout.specs.Decoded.{Decoded, decoded, too_short, decoded_by}
 use Rattle.records.specs.Battery.{battery_layout, short_layout, battery_fields, battery_values, battery_decoded, battery_read, battery_bytes, too_large, battery_image}
 use Rattle.records.specs.declared.battery.Battery.{Battery}
-use Rattle.records.specs.declared.battery.BatteryRead.TheVariants.{Record}
 use Rattle.layout.proofs.Known.{natural, numbers_of, same_numbers}
 use Rattle.layout.proofs.Laws.{written_back}
 
@@ -83,8 +83,8 @@ long : (payload : List ℕ) → size_of battery_layout ≤ length payload → ba
 unfolding battery_read
 long payload h = simp (le-leb 9 (length payload) h)
 
-bytes_read : (x : Battery) → HoldsAll battery_layout (battery_values x) → battery_read (battery_bytes x) ≡ battery_decoded (Record x)
-unfolding battery_decoded battery_values
+bytes_read : (x : Battery) → HoldsAll battery_layout (battery_values x) → battery_read (battery_bytes x) ≡ battery_decoded (Ok x)
+unfolding decoded_by battery_values
 bytes_read x h =
     let vs : List ℤ = battery_values x in
     by_test (eqb x.id 0)
@@ -105,7 +105,7 @@ abbrev pub IsBattery : Battery → Type 0
 IsBattery x = HoldsAll (signed 2 ∷ signed 2 ∷ unsigned 4 ∷ unsigned 1 ∷ unsigned 1 ∷ []) (battery_values x)
 
 -- whatever was written is read back
-pub battery_read_written : (x : Battery) (payload : List ℕ) → IsBattery x → battery_image x ≡ bytes payload → battery_read payload ≡ battery_decoded (Record x)
+pub battery_read_written : (x : Battery) (payload : List ℕ) → IsBattery x → battery_image x ≡ bytes payload → battery_read payload ≡ battery_decoded (Ok x)
 unfolding battery_values
 battery_read_written x payload h e =
     let w = written_fits x payload e in
@@ -129,14 +129,14 @@ third_fits payload b =
     (λ u. simp (t, u) (capacity_bound payload b (omega (arith, leb-true 8 (length payload) u))))
     (λ u. simp (t, u) (lit< tt)))
 
-module _ (x : Battery) (payload : List ℕ) (b : Bytes payload) (r : battery_decoded (Record x) ≡ battery_read payload) where
+module _ (x : Battery) (payload : List ℕ) (b : Bytes payload) (r : battery_decoded (Ok x) ≡ battery_read payload) where
   pub capacity_read : x.capacity_used < too_large
-  unfolding battery_decoded battery_values
+  unfolding decoded_by battery_values
   capacity_read = rw (ap (λ (a : Decoded). natural 2 (numbers_of a)) r) (third_fits payload b)
 
   -- eight bytes ..
   pub battery_written_read_short : length payload ≡ size_of short_layout → battery_image x ≡ bytes payload
-  unfolding battery_decoded battery_values
+  unfolding decoded_by battery_values
   battery_written_read_short e =
       let us : List ℤ = read_from short_layout 0 payload in
       let same : decoded (battery_values x) ≡ decoded (us ++ (pos 0 ∷ [])) = simp (le-leb 8 (length payload) (omega arith)) at (r ∙ short payload e) in
@@ -148,7 +148,7 @@ module _ (x : Battery) (payload : List ℕ) (b : Bytes payload) (r : battery_dec
 
   -- .. and nine, with an id that is not 0
   pub battery_written_read_long : length payload ≡ size_of battery_layout → 0 < x.id → battery_image x ≡ bytes payload
-  unfolding battery_decoded
+  unfolding decoded_by
   battery_written_read_long e some =
       image_long x capacity_read (λ none. omega (arith, none))
       ∙ ap bytes (written_back battery_layout (battery_values x) payload b e (r ∙ long payload (le_of_eq (sym e))))

@@ -4,25 +4,25 @@ use Prim.Native.Nat.{ℕ}
 use mathlib.Core.List.{List}
 use lib.IntN.{ℤ}
 use Rattle.base.proofs.Unique.{OneAnswer, same}
-use Rattle.writing.specs.declared.Written.{Written}
+use Rattle.writing.specs.Writing.{Written}
 use Rattle.writing.proofs.Rows.{one_write}
 use Rattle.records.specs.declared.link_statistics.LinkStatistics.{LinkStatistics}
-use Rattle.records.specs.declared.link_statistics.LinkStatisticsRead.{LinkStatisticsRead}
+use Rattle.records.specs.LinkStatistics.{LinkStatisticsRead}
 use Rattle.records.specs.declared.baro_altitude.BaroAltitude.{BaroAltitude}
-use Rattle.records.specs.declared.baro_altitude.BaroAltitudeRead.{BaroAltitudeRead}
+use Rattle.records.specs.BaroAltitude.{BaroAltitudeRead}
 use Rattle.records.specs.declared.battery.Battery.{Battery}
-use Rattle.records.specs.declared.battery.BatteryRead.{BatteryRead}
+use Rattle.records.specs.Battery.{BatteryRead}
 use Rattle.records.proofs.link_statistics.LinkStatistics.new.Reads as link-statistics-new
-use Rattle.records.proofs.link_statistics.LinkStatistics.from_bytes.Reads as link-statistics-from-bytes
-use Rattle.records.proofs.link_statistics.LinkStatistics.to_bytes.Reads as link-statistics-to-bytes
+use Rattle.records.proofs.link_statistics.LinkStatisticsCrsfPacket.from_bytes.Reads as link-statistics-from-bytes
+use Rattle.records.proofs.link_statistics.LinkStatisticsCrsfPacket.to_bytes.Reads as link-statistics-to-bytes
 use Rattle.records.proofs.baro_altitude.BaroAltitude.new.Reads as baro-altitude-new
-use Rattle.records.proofs.baro_altitude.BaroAltitude.from_bytes.Reads as baro-altitude-from-bytes
-use Rattle.records.proofs.baro_altitude.BaroAltitude.to_bytes.Reads as baro-altitude-to-bytes
+use Rattle.records.proofs.baro_altitude.BaroAltitudeCrsfPacket.from_bytes.Reads as baro-altitude-from-bytes
+use Rattle.records.proofs.baro_altitude.BaroAltitudeCrsfPacket.to_bytes.Reads as baro-altitude-to-bytes
 use Rattle.records.proofs.baro_altitude.BaroAltitude.get_altitude_dm.Reads as baro-altitude-get-altitude-dm
 use Rattle.records.proofs.baro_altitude.BaroAltitude.get_altitude_packed.Reads as baro-altitude-get-altitude-packed
 use Rattle.records.proofs.battery.Battery.new.Reads as battery-new
-use Rattle.records.proofs.battery.Battery.from_bytes.Reads as battery-from-bytes
-use Rattle.records.proofs.battery.Battery.to_bytes.Reads as battery-to-bytes
+use Rattle.records.proofs.battery.BatteryCrsfPacket.from_bytes.Reads as battery-from-bytes
+use Rattle.records.proofs.battery.BatteryCrsfPacket.to_bytes.Reads as battery-to-bytes
 use Rattle.records.proofs.Known.{link_statistics_known, link_statistics_read_known, baro_altitude_known, baro_altitude_read_known, battery_known, battery_read_known}
 
 pub link_statistics_new_one : OneAnswer {Seen = LinkStatistics} link-statistics-new.Post (λ κs r s. r)

@@ -1,17 +1,14 @@
 -- Battery (RULES 10): two i16, a capacity of 24 bits, a u8, and the id, which is written only when it is not 0. An absent id reads as 0.
 -- A record may have any capacity of 32 bits; one that 24 bits don't hold is refused in writing.
 -- Assumes nothing.
-use Rattle.std.specs.Prelude.{ℕ, ◌^◌, List, [], ◌∷◌, ◌++◌, eqb, ltb, ℤ, pos, take}
+use Rattle.std.specs.Prelude.{ℕ, ◌^◌, List, [], ◌∷◌, ◌++◌, eqb, ltb, ℤ, pos, take, Result}
 use Rattle.base.specs.Choice.{when◌then◌else◌}
-use Rattle.refusals.specs.Row.{row_of}
 use Rattle.refusals.specs.declared.Refusal.TheVariants.{CapacityRange}
 use Rattle.writing.specs.Writing.{Image, bytes, refused}
 use Rattle.layout.specs.Layout.{Field, signed, unsigned, read_as, record_bytes}
-use Rattle.layout.specs.Decoded.{Decoded, decoded, too_short}
-use Rattle.layout.specs.Decoded as read
+use Rattle.layout.specs.Decoded.{Decoded, decoded, decoded_by, too_short}
 use Rattle.records.specs.declared.battery.Battery.{Battery}
-use Rattle.records.specs.declared.battery.BatteryRead.{BatteryRead}
-use Rattle.records.specs.declared.battery.BatteryRead.TheVariants.{Record, Refused}
+use Rattle.refusals.specs.declared.Refusal.{Refusal}
 
 abbrev pub battery_type : ℕ
 battery_type = 0x08
@@ -27,9 +24,12 @@ unfoldable pub battery_values : Battery → List ℤ
 battery_values x =
     x.voltage ∷ x.current ∷ pos x.capacity_used ∷ pos x.remaining ∷ pos x.id ∷ []
 
-unfoldable pub battery_decoded : BatteryRead → Decoded
-battery_decoded (Record x) = decoded (battery_values x)
-battery_decoded (Refused r) = read.refused (row_of r)
+-- the record, or a refusal: what the reader says
+abbrev pub BatteryRead : Type 0
+BatteryRead = Result Battery Refusal
+
+abbrev pub battery_decoded : BatteryRead → Decoded
+battery_decoded = decoded_by battery_values
 
 -- nine bytes or more have an id, eight have none
 unfoldable pub battery_read : List ℕ → Decoded

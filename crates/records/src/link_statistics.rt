@@ -2,13 +2,13 @@
 ghost use Rattle.std.specs.Prelude.{◌≡◌, [], ◌∷◌, ◌≤◌, pos, length, take, drop};
 ghost use Rattle.base.specs.Parts.{pasted};
 ghost use Rattle.layout.specs.Layout.{size_of, record_bytes};
-ghost use Rattle.writing.specs.Writing.{written_row, write_of};
-ghost use Rattle.records.specs.LinkStatistics.{link_statistics_layout, link_statistics_values, link_statistics_decoded, link_statistics_read, link_statistics_image};
+ghost use Rattle.records.specs.Small.{link_statistics_small};
+ghost use Rattle.records.specs.LinkStatistics.{link_statistics_layout, link_statistics_values, link_statistics_decoded, link_statistics_type, link_statistics_read, link_statistics_image};
 
+use layout::CrsfPacket;
 use refusals::Refusal;
-use writing::Written;
 
-#[derive(Clone, Copy)]
+#[derive(Clone, Copy, PartialEq, Eq)]
 pub struct LinkStatistics {
     // dBm times -1.
     pub uplink_rssi_1: u8,
@@ -27,17 +27,8 @@ pub struct LinkStatistics {
     pub downlink_snr: i8,
 }
 
-#[derive(Clone, Copy)]
-pub enum LinkStatisticsRead {
-    Record(LinkStatistics),
-    Refused(Refusal),
-}
-
 impl LinkStatistics {
-    pub const PACKET_TYPE: u8 = 0x14;
-
-    pub const MIN_PAYLOAD_SIZE: usize = 10;
-
+    #[tactic(auto, unfolding(crate::specs::LinkStatistics::link_statistics_values))]
     pub fn new(
         uplink_rssi_1: u8,
         uplink_rssi_2: u8,
@@ -68,36 +59,6 @@ impl LinkStatistics {
         }
     }
 
-    pub fn from_bytes(payload: &[u8]) -> LinkStatisticsRead
-        ensures { link_statistics_decoded result ≡ link_statistics_read payload.now }
-    {
-        if payload.len() < Self::MIN_PAYLOAD_SIZE {
-            return LinkStatisticsRead::Refused(Refusal::InvalidPayloadLength);
-        }
-        let uplink_rssi_1 = numbers::get_u8(payload, 0);
-        let uplink_rssi_2 = numbers::get_u8(payload, 1);
-        let uplink_link_quality = numbers::get_u8(payload, 2);
-        let uplink_snr = numbers::get_i8(payload, 3);
-        let active_antenna = numbers::get_u8(payload, 4);
-        let rf_mode = numbers::get_u8(payload, 5);
-        let uplink_tx_power = numbers::get_u8(payload, 6);
-        let downlink_rssi = numbers::get_u8(payload, 7);
-        let downlink_link_quality = numbers::get_u8(payload, 8);
-        let downlink_snr = numbers::get_i8(payload, 9);
-        LinkStatisticsRead::Record(LinkStatistics {
-            uplink_rssi_1,
-            uplink_rssi_2,
-            uplink_link_quality,
-            uplink_snr,
-            active_antenna,
-            rf_mode,
-            uplink_tx_power,
-            downlink_rssi,
-            downlink_link_quality,
-            downlink_snr,
-        })
-    }
-
     // The first five fields, bytes 0 to 4.
     fn put_first_five(self, buffer: &mut [u8])
         requires { size_of link_statistics_layout ≤ length buffer.old }
@@ -123,15 +84,56 @@ impl LinkStatistics {
         numbers::put_u8(buffer, 8, self.downlink_link_quality);
         numbers::put_i8(buffer, 9, self.downlink_snr);
     }
+}
 
-    pub fn to_bytes(self, buffer: &mut [u8]) -> Written
-        ensures { (written_row result, buffer.new) ≡ write_of (link_statistics_image self) buffer.old }
-    {
+impl CrsfPacket for LinkStatistics {
+    ghost PACKET_TYPE = { link_statistics_type };
+
+    ghost image = { link_statistics_image };
+
+    ghost reads = { λ payload r. link_statistics_decoded r ≡ link_statistics_read payload };
+
+    ghost small = { link_statistics_small };
+
+    const PACKET_TYPE: u8 = 0x14;
+
+    const MIN_PAYLOAD_SIZE: usize = 10;
+
+    #[tactic(auto, unfolding(crate::specs::LinkStatistics::link_statistics_values, layout::specs::Decoded::decoded_by))]
+    fn from_bytes(payload: &[u8]) -> Result<Self, Refusal> {
+        if payload.len() < Self::MIN_PAYLOAD_SIZE {
+            return Err(Refusal::InvalidPayloadLength);
+        }
+        let uplink_rssi_1 = numbers::get_u8(payload, 0);
+        let uplink_rssi_2 = numbers::get_u8(payload, 1);
+        let uplink_link_quality = numbers::get_u8(payload, 2);
+        let uplink_snr = numbers::get_i8(payload, 3);
+        let active_antenna = numbers::get_u8(payload, 4);
+        let rf_mode = numbers::get_u8(payload, 5);
+        let uplink_tx_power = numbers::get_u8(payload, 6);
+        let downlink_rssi = numbers::get_u8(payload, 7);
+        let downlink_link_quality = numbers::get_u8(payload, 8);
+        let downlink_snr = numbers::get_i8(payload, 9);
+        Ok(Self {
+            uplink_rssi_1,
+            uplink_rssi_2,
+            uplink_link_quality,
+            uplink_snr,
+            active_antenna,
+            rf_mode,
+            uplink_tx_power,
+            downlink_rssi,
+            downlink_link_quality,
+            downlink_snr,
+        })
+    }
+
+    fn to_bytes(self, buffer: &mut [u8]) -> Result<usize, Refusal> {
         if buffer.len() < Self::MIN_PAYLOAD_SIZE {
-            return Written::Refused(Refusal::BufferOverflow);
+            return Err(Refusal::BufferOverflow);
         }
         self.put_first_five(buffer);
         self.put_other_five(buffer);
-        Written::Wrote(Self::MIN_PAYLOAD_SIZE)
+        Ok(Self::MIN_PAYLOAD_SIZE)
     }
 }

@@ -1,15 +1,8 @@
 // A case of the sample: its kind, the eight bytes that an entry for a host is to answer, and three parts.
-ghost use Rattle.std.specs.Prelude.{◌<◌};
+ghost use Rattle.std.specs.Prelude.{◌≡◌, ◌+◌, min, length};
+ghost use Rattle.std.specs.Iterator.{at_most};
 
-use base::{byte_at, wide};
 use refusals::{Refusal, row_of};
-
-// Where a part stands.
-#[derive(Clone, Copy)]
-pub struct Part {
-    pub at: usize,
-    pub len: usize,
-}
 
 // What an answer is to be: a refusal's number, or 0 for a frame or a record, or 255 where more is asked for.
 #[derive(Clone, Copy)]
@@ -23,72 +16,80 @@ pub struct Expected {
 }
 
 #[derive(Clone, Copy)]
-pub struct Case {
+pub struct Case<'a> {
     pub kind: u8,
     pub expected: Expected,
-    pub a: Part,
-    pub b: Part,
-    pub c: Part,
-    // where the next case begins
-    pub next: usize,
+    pub a: &'a [u8],
+    pub b: &'a [u8],
+    pub c: &'a [u8],
 }
 
-// The eight bytes from a place on, of which the fourth is free and the last is 0.
-fn expected_at(page: &[u8], at: usize) -> Expected
-    requires { at < 8192 }
+// The cases of a page, which a kind of 0 ends. What is not there of a case reads as 0, and its parts have what is there.
+#[derive(Clone, Copy)]
+pub struct Cases<'a>(pub &'a [u8]);
+
+// The kind, three lengths and the eight bytes, of which the fourth is free and the last is 0.
+const HEAD: usize = 12;
+
+// So many of the bytes, or all where there are fewer, and the others.
+fn cut(bytes: &[u8], count: usize) -> (&[u8], &[u8])
+    ensures front { length result.0.now ≡ min count (length bytes.now) }
+    ensures all { length result.0.now + length result.1.now ≡ length bytes.now }
 {
-    Expected {
-        number: byte_at(page, at),
-        taken: byte_at(page, at + 1),
-        in_state: byte_at(page, at + 2),
-        len: byte_at(page, at + 4),
-        first: byte_at(page, at + 5),
-        second: byte_at(page, at + 6),
+    bytes.split_at(count.min(bytes.len()))
+}
+
+impl<'a> Iterator for Cases<'a> {
+    type Item = Case<'a>;
+
+    ghost remaining = { λ s. at_most (length s.0.now) };
+
+    fn next(&mut self) -> Option<Case<'a>> {
+        if self.0.is_empty() {
+            return None;
+        }
+        let (front, rest) = cut(self.0, HEAD);
+        let mut head = [0; HEAD];
+        head[..front.len()].copy_from_slice(front);
+        let [
+            kind,
+            a,
+            b,
+            c,
+            number,
+            taken,
+            in_state,
+            _,
+            len,
+            first,
+            second,
+            _,
+        ] = head;
+        if kind == 0 {
+            return None;
+        }
+        let (a, rest) = cut(rest, usize::from(a));
+        let (b, rest) = cut(rest, usize::from(b));
+        let (c, rest) = cut(rest, usize::from(c));
+        self.0 = rest;
+        Some(Case {
+            kind,
+            expected: Expected {
+                number,
+                taken,
+                in_state,
+                len,
+                first,
+                second,
+            },
+            a,
+            b,
+            c,
+        })
     }
 }
 
 // Whether a refusal has this number.
 pub fn has_number(refusal: Refusal, number: u8) -> bool {
-    let row = row_of(refusal);
-    row.number == number
-}
-
-pub fn case_at(page: &[u8], at: usize) -> Case
-    requires { at < 4096 }
-    ensures { at < result.next }
-{
-    let a = wide(byte_at(page, at + 1));
-    let b = wide(byte_at(page, at + 2));
-    let c = wide(byte_at(page, at + 3));
-    let expected = expected_at(page, at + 4);
-    let body = at + 12;
-    Case {
-        kind: byte_at(page, at),
-        expected,
-        a: Part { at: body, len: a },
-        b: Part {
-            at: body + a,
-            len: b,
-        },
-        c: Part {
-            at: body + a + b,
-            len: c,
-        },
-        next: body + a + b + c,
-    }
-}
-
-// That many bytes from a place on, or those of them that are there.
-pub fn bytes_from(s: &[u8], at: usize, count: usize) -> &[u8] {
-    if s.len() < at {
-        return &s[..0];
-    }
-    if count < s.len() - at {
-        return &s[at..at + count];
-    }
-    &s[at..]
-}
-
-pub fn bytes_of(page: &[u8], part: Part) -> &[u8] {
-    bytes_from(page, part.at, part.len)
+    row_of(refusal).number == number
 }

@@ -6,130 +6,127 @@ mod case;
 mod fields;
 mod framing;
 mod queries;
-mod read;
+mod recorded;
 mod series_cases;
-mod written;
 
-ghost use Rattle.std.specs.Prelude.{◌<◌};
+use case::{Case, Cases};
+use channels::RcChannelsPacked;
+use host_state::SIZE;
+use positions::gps::Gps;
+use positions::gps_extended::GpsExtended;
+use records::baro_altitude::BaroAltitude;
+use records::battery::Battery;
+use records::link_statistics::LinkStatistics;
+use series::rpm::Rpm;
+use series::temp::Temp;
+use series::voltages::Voltages;
+use std::io::Read;
+use std::{fmt, io};
 
-use base::byte_at;
-use case::{Expected, bytes_of, case_at};
+// How many bytes a page of the sample has.
+const PAGE: usize = 4096;
 
-// The standard input and output.
-const STDIN_FILENO: i32 = 0;
+// How many cases agree, and how many differ.
+#[derive(Clone, Copy)]
+struct Count {
+    agree: u64,
+    differ: u64,
+}
 
-const STDOUT_FILENO: i32 = 1;
+const NONE: Count = Count {
+    agree: 0,
+    differ: 0,
+};
 
-// Whether the case agrees, by what is expected and its three parts.
-fn is_answer(kind: u8, e: Expected, a: &[u8], b: &[u8], c: &[u8], state: &mut [u8]) -> bool {
-    match kind {
-        1 => framing::resets(state),
-        2 => framing::calls(state, e, a, c),
-        3..=7 => queries::answers(kind, a, c),
-        10..=18 => read::reads(kind, e, a, c),
-        20..=28 => written::writes(kind, e, a, b, c),
+impl Count {
+    fn add(&mut self, agrees: bool) {
+        if agrees {
+            self.agree = self.agree.wrapping_add(1);
+        } else {
+            self.differ = self.differ.wrapping_add(1);
+        }
+    }
+}
+
+impl fmt::Display for Count {
+    fn fmt<W: fmt::Write>(&self, f: &mut fmt::Formatter<W>) -> fmt::Result {
+        write!(f, "{} agree, {} differ", self.agree, self.differ)
+    }
+}
+
+#[derive(Clone, Copy)]
+struct Counts {
+    framing: Count,
+    queries: Count,
+    read: Count,
+    written: Count,
+}
+
+impl Counts {
+    // Which of them a kind of case goes to.
+    fn of(&mut self, kind: u8) -> &mut Count {
+        match kind {
+            0..=2 => &mut self.framing,
+            3..=9 => &mut self.queries,
+            10..=19 => &mut self.read,
+            _ => &mut self.written,
+        }
+    }
+}
+
+fn agrees(case: &Case<'_>, state: &mut [u8; SIZE]) -> bool {
+    match case.kind {
+        1 => host_state::reset(state).is_ok(),
+        2 => framing::calls(state, case),
+        3..=7 => queries::answers(case),
+        10 => recorded::reads::<LinkStatistics>(case),
+        11 => recorded::reads::<RcChannelsPacked>(case),
+        12 => recorded::reads::<Gps>(case),
+        13 => recorded::reads::<GpsExtended>(case),
+        14 => recorded::reads::<Battery>(case),
+        15 => recorded::reads::<BaroAltitude>(case),
+        16 => series_cases::reads::<Rpm>(case),
+        17 => series_cases::reads::<Temp>(case),
+        18 => series_cases::reads::<Voltages>(case),
+        20 => recorded::writes::<LinkStatistics>(case),
+        21 => recorded::writes::<RcChannelsPacked>(case),
+        22 => recorded::writes::<Gps>(case),
+        23 => recorded::writes::<GpsExtended>(case),
+        24 => recorded::writes::<Battery>(case),
+        25 => recorded::writes::<BaroAltitude>(case),
+        26 => series_cases::writes::<Rpm>(case),
+        27 => series_cases::writes::<Temp>(case),
+        28 => series_cases::writes::<Voltages>(case),
         _ => false,
     }
 }
 
-fn agrees(page: &[u8], at: usize, state: &mut [u8]) -> bool
-    requires { at < 4096 }
-{
-    let case = case_at(page, at);
-    let e = case.expected;
-    let a = case.a;
-    let b = case.b;
-    let c = case.c;
-    is_answer(
-        case.kind,
-        e,
-        bytes_of(page, a),
-        bytes_of(page, b),
-        bytes_of(page, c),
-        state,
-    )
-}
-
-// Which two counts a kind of case goes to: framing, queries, records read, records written.
-fn group(kind: u8) -> usize
-    ensures { result < 7 }
-{
-    if kind < 3 {
-        return 0;
-    }
-    if kind < 10 {
-        return 2;
-    }
-    if kind < 20 {
-        return 4;
-    }
-    6
-}
-
-// Which of the two.
-fn place(kind: u8, agree: bool) -> usize
-    ensures { result < 8 }
-{
-    if agree {
-        return group(kind);
-    }
-    group(kind) + 1
-}
-
-fn count(counts: &mut [u64; 8], i: usize)
-    requires { i < 8 }
-{
-    let before = counts[i];
-    counts[i] = before.wrapping_add(1);
-}
-
-// A page of cases, which a kind of 0 ends.
-fn replay(page: &[u8], state: &mut [u8], counts: &mut [u64; 8]) {
-    let mut at = 0;
-    while at < 4096 {
-        let kind = byte_at(page, at);
-        if kind == 0 {
-            return;
+fn replay(sample: &[u8]) -> Counts {
+    let mut state = [0u8; SIZE];
+    let mut counts = Counts {
+        framing: NONE,
+        queries: NONE,
+        read: NONE,
+        written: NONE,
+    };
+    for page in sample.chunks(PAGE) {
+        for case in Cases(page) {
+            let agrees = agrees(&case, &mut state);
+            counts.of(case.kind).add(agrees);
         }
-        let agree = agrees(page, at, state);
-        count(counts, place(kind, agree));
-        at = case_at(page, at).next;
     }
+    counts
 }
 
-// Reads a page and replays it. Whether there may be another.
-fn next_page(state: &mut [u8], counts: &mut [u64; 8]) -> bool {
-    let mut page = io::buffer();
-    let n = io::read_full(STDIN_FILENO, &mut page);
-    replay(&page[..n], state, counts);
-    n == 4096
-}
-
-fn replay_all(state: &mut [u8], counts: &mut [u64; 8]) {
-    let mut turns = u64::MAX;
-    while turns > 0 && next_page(state, counts) {
-        turns -= 1;
-    }
-}
-
-fn line(word: &[u8], agree: u64, differ: u64) {
-    io::write_all(STDOUT_FILENO, word);
-    io::print_decimal(STDOUT_FILENO, agree);
-    io::write_all(STDOUT_FILENO, b" agree, ");
-    io::print_decimal(STDOUT_FILENO, differ);
-    io::write_all(STDOUT_FILENO, b" differ\n");
-}
-
-fn main() {
-    let mut state = [0u8; host_state::SIZE];
-    let mut counts = [0u64; 8];
-    replay_all(&mut state, &mut counts);
-    line(b"framing ", counts[0], counts[1]);
-    line(
-        b"types, addresses, check bytes, altitudes ",
-        counts[2],
-        counts[3],
-    );
-    line(b"records read ", counts[4], counts[5]);
-    line(b"records written ", counts[6], counts[7]);
+fn main(rt: HostRuntime) -> io::Result<()> {
+    let mut sample = Vec::new(rt.alloc());
+    rt.stdin().read_to_end(&mut sample)?;
+    let counts = replay(&sample);
+    println!(rt; "framing {}", counts.framing)?;
+    println!(rt;
+        "types, addresses, check bytes, altitudes {}",
+        counts.queries
+    )?;
+    println!(rt; "records read {}", counts.read)?;
+    println!(rt; "records written {}", counts.written)
 }

@@ -1,6 +1,7 @@
 -- A parser that is restored from any accepted form begins a history, at the form's position (RULES 18.4). A lent parser that is saved, and a lent parser
 -- that is restored from what the save wrote: they hold the same bytes and stand at the same position (RULES 9.6), and demand 3 goes on (RULES 7.3, 18.4).
 -- Assumes nothing.
+use Rattle.std.specs.Prelude.{Ok}
 use mathlib.Core.Path.{◌≡◌, refl, sym, ap, ap₂, ◌∙◌, subst}
 use mathlib.Core.Bool.{true, ◌&&◌}
 use mathlib.Core.List.{List, [], ◌++◌}
@@ -17,9 +18,8 @@ use Rattle.reading.proofs.History.{resumed}
 use Rattle.parser.proofs.Histories.{Stands}
 use Rattle.parser.specs.declared.CrsfParser.{CrsfParser}
 use Rattle.parser.specs.Parser.{held_by, is_state}
-use Rattle.writing.specs.declared.Written.TheVariants.{Wrote}
 use Rattle.writing.specs.Writing.{written_row}
-use Rattle.saved.specs.declared.form.Restored.{Restored}
+use Rattle.saved.specs.Save.{Restored}
 use Rattle.saved.specs.Form.{saved_form, position_in, is_form, held_of}
 use Rattle.saved.specs.Save.{held_row, restored_row}
 use Rattle.saved.specs.Parser.{resume_of}
@@ -60,7 +60,7 @@ pub record Carried (p q : CrsfParser) (r : Restored) : Type 0 where
   pub state : is_state q ≡ true
 
 -- p is saved; then q is restored from what the save wrote, and is q' afterwards
-module _ (p q : CrsfParser) (full : length p.buffer ≡ limit) (out : List ℕ) (n : ℕ) {after : List ℕ} (saves : Saves p out (Wrote n) after)
+module _ (p q : CrsfParser) (full : length p.buffer ≡ limit) (out : List ℕ) (n : ℕ) {after : List ℕ} (saves : Saves p out (Ok n) after)
     {q' : CrsfParser} (r : Restored) (resumes : Resumes q (take n after) q' r) where
   pub carried : Carried p q' r
   unfolding written_row

@@ -10,10 +10,10 @@ use prog.Routine.{Routine}
 use types.Logic.{Logic}
 use contract.Lifetimes.{Lfts}
 use contract.Monad.{Fun, fact}
-use Rattle.writing.specs.declared.Written.{Written}
+use Rattle.writing.specs.Writing.{Written}
 use Rattle.writing.proofs.Rows.{one_write}
 use Rattle.parser.specs.declared.CrsfParser.{CrsfParser}
-use Rattle.saved.specs.declared.form.Restored.{Restored}
+use Rattle.saved.specs.Save.{Restored}
 use Rattle.saved.specs.Lent.{Saves, Resumes}
 use Rattle.saved.proofs.Rows.{one_restore}
 use Rattle.saved.specs.contracts.lent.save as save

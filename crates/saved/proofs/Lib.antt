@@ -1,8 +1,7 @@
--- `Writes`: the code's two writes as one. `Forms`: what the tests of a span and of the older form say. `Older`, `Marked`: laws of the older form, and of
+-- `Forms`: what the tests of a span and of the older form say. `Older`, `Marked`: laws of the older form, and of
 -- the form with a position. `Heads`: the position of a form, as the code reads it. `Laws`: what the saved form is for.
 -- `Resumes`: a restore by value. `Rows`: what a restore says is known by its row. `Unique`: one answer.
--- `Structs`, `LentLaws`, `LentUnique`: of a parser that is lent: its types as crate `by_hand` takes them, what the form is for, one answer.
-pub mod Writes
+-- `LentLaws`, `LentUnique`: of a parser that is lent: what the form is for, one answer.
 pub mod Forms
 pub mod Older
 pub mod Marked
@@ -11,6 +10,5 @@ pub mod Heads
 pub mod Resumes
 pub mod Rows
 pub mod Unique
-pub mod Structs
 pub mod LentLaws
 pub mod LentUnique

@@ -1,5 +1,6 @@
 -- What a restore by value answers, from what the restore over its places answered.
 -- Assumes nothing.
+use Rattle.std.specs.Prelude.{Ok, Err}
 use mathlib.Core.Path.{◌≡◌, sym, ap, ◌∙◌}
 use mathlib.Core.Bool.{true, false}
 use mathlib.Core.List.{List}
@@ -14,7 +15,6 @@ use Rattle.refusals.proofs.Rows.{not_zero}
 use Rattle.reading.specs.Reading.{limit}
 use Rattle.parser.specs.declared.CrsfParser.{CrsfParser}
 use Rattle.saved.specs.Form.{position_in, is_form, held_of}
-use Rattle.saved.specs.declared.form.Restored.TheVariants.{Held, Refused}
 use Rattle.saved.specs.Save.{held_row, restored_row, restore_of}
 use Rattle.saved.specs.Parser.{resume_of}
 
@@ -35,15 +35,15 @@ module _ (p : CrsfParser) (form : List ℕ) (full : length p.buffer ≡ limit) w
   unfolding resume_of
   resumed good e = ap (λ (x : Left). (x.0, record { buffer = x.1; start = 0; end = get_or x.0 1 0; position = position_in form })) (e ∙ at_good good) ∙ simp good
 
-  pub resume_held : {n q : ℕ} {after : List ℕ} → (restored_row (Held n), after) ≡ restore_of form p.buffer → q ≡ position_in form
-      → (restored_row (Held n), record { buffer = after; start = 0; end = n; position = q }) ≡ resume_of p form
+  pub resume_held : {n q : ℕ} {after : List ℕ} → (restored_row (Ok n), after) ≡ restore_of form p.buffer → q ≡ position_in form
+      → (restored_row (Ok n), record { buffer = after; start = 0; end = n; position = q }) ≡ resume_of p form
   unfolding restored_row
   resume_held {n} {q} {after} e at =
       ap (λ (k : ℕ). (held_row n, record { buffer = after; start = 0; end = n; position = k })) at
       ∙ by_test (is_form limit form) (λ good. resumed good e) (λ bad. absurd (not_zero BadState (sym (ap (λ (x : Left). x.0) (e ∙ at_bad bad)))))
 
-  pub resume_refused : (r : Refusal) {after : List ℕ} → (restored_row (Refused r), after) ≡ restore_of form p.buffer
-      → (restored_row (Refused r), p) ≡ resume_of p form
+  pub resume_refused : (r : Refusal) {after : List ℕ} → (restored_row (Err r), after) ≡ restore_of form p.buffer
+      → (restored_row (Err r), p) ≡ resume_of p form
   unfolding restored_row resume_of
   resume_refused r e =
       by_test (is_form limit form) (λ good. absurd (not_zero r (ap (λ (x : Left). x.0) (e ∙ at_good good))))

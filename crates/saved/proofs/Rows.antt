@@ -1,20 +1,20 @@
 -- What a restore says is known by its row, so a promise of the row leaves one answer.
 -- Assumes nothing.
+use Rattle.std.specs.Prelude.{Ok, Err}
 use Prim.Native.Nat.{ℕ}
 use mathlib.Core.Path.{◌≡◌, sym, ap, ap₂, ◌∙◌}
 use mathlib.Core.List.{List}
 use lib.ListN.{get_or}
 use Rattle.refusals.proofs.Rows.{one_refusal, not_zero}
-use Rattle.saved.specs.declared.form.Restored.{Restored}
-use Rattle.saved.specs.declared.form.Restored.TheVariants.{Held, Refused}
+use Rattle.saved.specs.Save.{Restored}
 use Rattle.saved.specs.Save.{restored_row}
 
 by_cases : (w v : Restored) → restored_row w ≡ restored_row v → w ≡ v
 unfolding restored_row
-by_cases (Held n) (Held k) same = ap (λ (row : List ℕ). Held (get_or row 1 0)) same
-by_cases (Held n) (Refused s) same = absurd (not_zero s (sym same))
-by_cases (Refused r) (Held k) same = absurd (not_zero r same)
-by_cases (Refused r) (Refused s) same = ap Refused (one_refusal same)
+by_cases (Ok n) (Ok k) same = ap (λ (row : List ℕ). Ok (get_or row 1 0)) same
+by_cases (Ok n) (Err s) same = absurd (not_zero s (sym same))
+by_cases (Err r) (Ok k) same = absurd (not_zero r same)
+by_cases (Err r) (Err s) same = ap Err (one_refusal same)
 
 pub one_restored : {w v : Restored} → restored_row w ≡ restored_row v → w ≡ v
 one_restored {w} {v} = by_cases w v

@@ -3,10 +3,10 @@
 use mathlib.Core.List.{List}
 use Prim.Native.Nat.{ℕ}
 use Rattle.base.proofs.Unique.{OneAnswer, same}
-use Rattle.writing.specs.declared.Written.{Written}
+use Rattle.writing.specs.Writing.{Written}
 use Rattle.writing.proofs.Rows.{one_write}
 use Rattle.parser.specs.declared.CrsfParser.{CrsfParser}
-use Rattle.saved.specs.declared.form.Restored.{Restored}
+use Rattle.saved.specs.Save.{Restored}
 use Rattle.saved.proofs.Rows.{one_restore}
 use Rattle.saved.proofs.form.save_in.Reads as save-in
 use Rattle.saved.proofs.form.restore_in.Reads as restore-in

@@ -1,10 +1,10 @@
 -- What a save and a restore of a lent parser promise: what the forms by value do, of the parser at entry and the parser at exit (RULES 6.8).
 -- Assumes nothing.
 use Rattle.std.specs.Prelude.{◌≡◌, List, ℕ}
-use Rattle.writing.specs.declared.Written.{Written}
+use Rattle.writing.specs.Writing.{Written}
 use Rattle.writing.specs.Writing.{written_row, write_of}
 use Rattle.parser.specs.declared.CrsfParser.{CrsfParser}
-use Rattle.saved.specs.declared.form.Restored.{Restored}
+use Rattle.saved.specs.Save.{Restored}
 use Rattle.saved.specs.Save.{save_image, restored_row}
 use Rattle.saved.specs.Parser.{resume_of}
 

@@ -2,90 +2,86 @@
 // older form. The older form alone is still accepted, and begins at position 0.
 ghost use Rattle.std.specs.Prelude.{◌≡◌};
 ghost use Rattle.writing.specs.Writing.{written_row, write_of};
-ghost use Rattle.saved.specs.Form.{is_marked, can_save, position_in};
-ghost use Rattle.saved.specs.Save.{save_image, Heads, restored_row, restore_of};
+ghost use Rattle.saved.specs.Form.{is_marked, can_save, position_in, older_in};
+ghost use Rattle.saved.specs.Save.{save_image, restored_row, restore_of};
 
-use crate::held::{count_size, is_savable, restore_held, save_held};
-use base::{byte_at, fits};
-use groups::Front;
+use crate::held::{held_bytes, is_savable};
+use base::{copy_in, fits};
+use groups::Number;
 use numbered::is_within;
 use refusals::Refusal;
-use writing::Written;
 
 // The number that a form with a position begins with: no older form does.
 const MARK: u8 = 64;
 
-// How many bytes are held now, or a refusal: what a restore says.
+// The position of a form, and its older form, which stands behind it: no bytes where the position is malformed.
 #[derive(Clone, Copy)]
-pub enum Restored {
-    Held(usize),
-    Refused(Refusal),
-}
-
-// The position of a form, and how many bytes stand before its older form: all of them where the position is malformed.
-#[derive(Clone, Copy)]
-struct Head {
+struct Head<'a> {
     position: u64,
-    size: usize,
+    older: &'a [u8],
 }
 
 // Whether start and end are those of a state, fewer bytes than the limit are held, and all of them can be numbered.
+#[tactic(auto, unfolding(crate::specs::Form::is_savable, crate::specs::Form::can_save))]
 fn can_save(limit: usize, start: usize, end: usize, position: u64) -> bool
     ensures { result ≡ can_save limit start end position }
 {
-    if !is_savable(limit, start, end) {
-        return false;
-    }
-    is_within(position, end - start, 0)
+    is_savable(limit, start, end) && is_within(position, end - start, 0)
 }
 
-// The saved form of the bytes from start up to end, which begin at that position of the stream, at the front of out.
-pub fn save_in(places: &[u8], start: usize, end: usize, position: u64, out: &mut [u8]) -> Written
+// The saved form of the bytes from start up to end, which begin at that position of the stream, at the front of out. Any start, end and position are
+// answered, so no type binds them.
+pub fn save_in(
+    places: &[u8],
+    start: usize,
+    end: usize,
+    position: u64,
+    out: &mut [u8],
+) -> Result<usize, Refusal>
     ensures { (written_row result, out.new) ≡ write_of (save_image places.now start end position) out.old }
 {
     if !can_save(places.len(), start, end, position) {
-        return Written::Refused(Refusal::BadState);
+        return Err(Refusal::BadState);
     }
     let count = end - start;
     let at = groups::size(position) + 1;
     let from = at + groups::size(count as u64);
     if !fits(out.len(), from, count) {
-        return Written::Refused(Refusal::BufferOverflow);
+        return Err(Refusal::BufferOverflow);
     }
     out[0] = MARK;
-    groups::put(position, out, 1);
-    save_held(places, start, end, &mut out[at..]);
-    Written::Wrote(from + count)
+    let _ = groups::put(position, out, 1);
+    let _ = groups::put(count as u64, out, at);
+    copy_in(out, from, &places[start..end], count);
+    Ok(from + count)
 }
 
+#[tactic(auto, unfolding(crate::specs::Form::is_marked))]
 fn is_marked(form: &[u8]) -> bool
     ensures { result ≡ is_marked form.now }
 {
-    byte_at(form, 0) == MARK
+    form.first() == Some(&MARK)
 }
 
-fn head_of(form: &[u8]) -> Head
-    ensures { Heads form.now result }
+fn head_of<'a>(form: &'a [u8]) -> Head<'a>
+    ensures position { result.position ≡ position_in form.now }
+    ensures older { result.older.now ≡ older_in form.now }
 {
     if !is_marked(form) {
         return Head {
             position: 0,
-            size: 0,
+            older: form,
         };
     }
-    let number = groups::read(u64::MAX, &form[1..]);
-    match number {
-        Front::Number { value, size } => Head {
+    let behind = &form[1..];
+    match groups::read(u64::MAX, behind) {
+        Ok(Number { value, size }) => Head {
             position: value,
-            size: size + 1,
+            older: &behind[size..],
         },
-        Front::Unfinished => Head {
+        Err(_) => Head {
             position: 0,
-            size: form.len(),
-        },
-        Front::Malformed => Head {
-            position: 0,
-            size: form.len(),
+            older: &[],
         },
     }
 }
@@ -98,18 +94,15 @@ pub fn position_in(form: &[u8]) -> u64
 }
 
 // The bytes of a saved form, at the front of the places: held from place 0 up to the count.
-pub fn restore_in(places: &mut [u8], form: &[u8]) -> Restored
+pub fn restore_in(places: &mut [u8], form: &[u8]) -> Result<usize, Refusal>
     ensures { (restored_row result, places.new) ≡ restore_of form.now places.old }
 {
     let head = head_of(form);
-    let size = head.size;
-    let held = &form[size..];
-    let from = count_size(places.len(), held);
-    if from == 0 {
-        return Restored::Refused(Refusal::BadState);
+    match held_bytes(places.len(), head.older) {
+        Some(held) if is_within(head.position, held.len(), 0) => {
+            copy_in(places, 0, held, held.len());
+            Ok(held.len())
+        }
+        _ => Err(Refusal::BadState),
     }
-    if !is_within(head.position, held.len() - from, 0) {
-        return Restored::Refused(Refusal::BadState);
-    }
-    restore_held(places, held)
 }

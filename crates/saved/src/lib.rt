@@ -10,22 +10,21 @@ ghost use Rattle.writing.specs.Writing.{written_row, write_of};
 ghost use Rattle.saved.specs.Save.{save_image, restored_row};
 ghost use Rattle.saved.specs.Parser.{resume_of};
 
-use form::{Restored, position_in, restore_in, save_in};
+use form::{position_in, restore_in, save_in};
 use parser::CrsfParser;
-use writing::Written;
+use refusals::Refusal;
 
 // The parser after a restore, and what the restore says.
 #[derive(Clone, Copy)]
 pub struct Resumed {
     pub parser: CrsfParser,
-    pub restored: Restored,
+    pub restored: Result<usize, Refusal>,
 }
 
-pub fn save(p: CrsfParser, out: &mut [u8]) -> Written
+pub fn save(p: CrsfParser, out: &mut [u8]) -> Result<usize, Refusal>
     ensures { (written_row result, out.new) ≡ write_of (save_image p.buffer p.start p.end p.position) out.old }
 {
-    let buffer = p.buffer;
-    save_in(&buffer, p.start, p.end, p.position, out)
+    save_in(&p.buffer, p.start, p.end, p.position, out)
 }
 
 pub fn restore(p: CrsfParser, form: &[u8]) -> Resumed
@@ -33,19 +32,14 @@ pub fn restore(p: CrsfParser, form: &[u8]) -> Resumed
 {
     let mut buffer = p.buffer;
     let restored = restore_in(&mut buffer, form);
-    match restored {
-        Restored::Held(count) => Resumed {
-            parser: CrsfParser {
-                buffer,
-                start: 0,
-                end: count,
-                position: position_in(form),
-            },
-            restored,
+    let parser = match restored {
+        Ok(count) => CrsfParser {
+            buffer,
+            start: 0,
+            end: count,
+            position: position_in(form),
         },
-        Restored::Refused(_) => Resumed {
-            parser: p,
-            restored,
-        },
-    }
+        Err(_) => p,
+    };
+    Resumed { parser, restored }
 }

@@ -11,12 +11,13 @@ use lib.ListN.{length, get_or, take, drop}
 use Rattle.base.proofs.Parts.{drop_take}
 use Rattle.crc.specs.Remainder.{remainder}
 use Rattle.crc.specs.Check.{check_of}
-use Rattle.crc.specs.declared.Check.{Check}
+use Rattle.crc.specs.Check.{Check}
 use Rattle.packets.specs.Listed.{listed}
 use Rattle.reading.specs.Answer.{calculated, carried}
 use Rattle.reading.specs.Frame.{Valid}
 use Rattle.reading.proofs.Frame.{Shape, valid_shape, shape_valid}
-use Rattle.valid.specs.Valid.{Decides, is_right}
+use Rattle.std.specs.Prelude.{is_ok}
+use Rattle.valid.specs.Valid.{Decides}
 
 -- a decision is one or the other
 decided_by : {P : Type 0} (r r' : Bool) → Decides P r → Decides P r' → r ≡ r'
@@ -50,12 +51,12 @@ module _ (m : ℕ) (c : List ℕ) where
     covered_is = ap remainder (drop_take 2 (length c - 1) c)
 
     by_check : (b : Bool) → eqb (remainder (take (length c - 1 - 2) (drop 2 c))) (carried c) ≡ b → {check : Check}
-        → check ≡ check_of (remainder (take (length c - 1 - 2) (drop 2 c))) (carried c) → Decides (Valid m c) (is_right check)
+        → check ≡ check_of (remainder (take (length c - 1 - 2) (drop 2 c))) (carried c) → Decides (Valid m c) (is_ok check)
     by_check true q e =
         let sums : calculated c ≡ carried c = covered_is ∙ eqb-true _ _ q in
         let valid : Valid m c = shape_valid m c (record { four = four; most = most; address = address; size = size; check = sums }) in
         rw (e, q) (record { yes = λ _. valid; no = λ _. refl })
     by_check false q e = rw (e, q) (decides_no (λ s. eqb-false _ _ q (sym covered_is ∙ s.check)))
 
-    pub by_sum : {check : Check} → check ≡ check_of (remainder (take (length c - 1 - 2) (drop 2 c))) (carried c) → Decides (Valid m c) (is_right check)
+    pub by_sum : {check : Check} → check ≡ check_of (remainder (take (length c - 1 - 2) (drop 2 c))) (carried c) → Decides (Valid m c) (is_ok check)
     by_sum = by_check _ refl

@@ -1,75 +1,60 @@
 // Batteries at both sides of the largest capacity that 24 bits hold, with an id and without: payloads and frames, to an address and to a byte that is
 // none, into buffers that they fill and into those with a place less; and frames into buffers with and without room for head and check byte.
-use crate::show::{BEFORE, STDOUT_FILENO, left, named};
+use crate::show::{Written, show_left};
+use frames::write_packet_to_buffer;
+use layout::CrsfPacket;
 use records::battery::Battery;
+use std::io;
 
-fn titled(record: Battery) {
-    io::write_all(STDOUT_FILENO, b"battery ");
-    io::print_decimal(STDOUT_FILENO, record.capacity_used as u64);
-    io::write_all(STDOUT_FILENO, b" id ");
-    io::print_decimal(STDOUT_FILENO, record.id as u64);
+fn payload(rt: &impl Print, record: Battery, room: usize) -> io::Result<()> {
+    print!(rt;
+        "battery {} id {} written in {room}",
+        record.capacity_used, record.id
+    )?;
+    show_left(rt, room, |buffer| Written(record.to_bytes(buffer)))
 }
 
-fn payload_in(buffer: &mut [u8], record: Battery) {
-    titled(record);
-    named(b" written in ", buffer.len());
-    let written = record.to_bytes(buffer);
-    left(written, buffer);
-}
-
-fn framed_in(buffer: &mut [u8], record: Battery, dest: u8) {
-    titled(record);
-    named(b" framed in ", buffer.len());
-    io::write_all(STDOUT_FILENO, b" to ");
-    io::print_hex(STDOUT_FILENO, dest as u64, 2);
-    let written = frames::write_battery(buffer, dest, record);
-    left(written, buffer);
-}
-
-fn payload(record: Battery, room: usize) {
-    let mut buffer = [BEFORE; 16];
-    if room <= buffer.len() {
-        payload_in(&mut buffer[0..room], record);
-    }
-}
-
-fn framed(record: Battery, room: usize, dest: u8) {
-    let mut buffer = [BEFORE; 16];
-    if room <= buffer.len() {
-        framed_in(&mut buffer[0..room], record, dest);
-    }
+fn framed(rt: &impl Print, record: Battery, room: usize, dest: u8) -> io::Result<()> {
+    print!(rt;
+        "battery {} id {} framed in {room} to {dest:02x}",
+        record.capacity_used, record.id
+    )?;
+    show_left(rt, room, |buffer| {
+        Written(write_packet_to_buffer(buffer, dest, record))
+    })
 }
 
 // Of 8 bytes, as it is newly made, and of 9.
-fn capacity(capacity_used: u32) {
+fn capacity(rt: &impl Print, capacity_used: u32) -> io::Result<()> {
     let short = Battery::new(120, 15, capacity_used, 50);
-    payload(short, 8);
-    payload(short, 7);
-    framed(short, 12, 0xC8);
-    framed(short, 11, 0xC8);
-    framed(short, 12, 0xC9);
-    framed(short, 11, 0xC9);
-    let long = Battery {
-        voltage: 120,
-        current: 15,
-        capacity_used,
-        remaining: 50,
-        id: 5,
-    };
-    payload(long, 9);
-    payload(long, 8);
-    framed(long, 13, 0xC8);
-    framed(long, 12, 0xC8);
-    framed(long, 13, 0xC9);
-    framed(long, 12, 0xC9);
-    framed(long, 0, 0xC8);
-    framed(long, 3, 0xC8);
-    framed(long, 4, 0xC8);
-    framed(long, 3, 0xC9);
+    for room in [8, 7] {
+        payload(rt, short, room)?;
+    }
+    for (room, dest) in [(12, 0xC8), (11, 0xC8), (12, 0xC9), (11, 0xC9)] {
+        framed(rt, short, room, dest)?;
+    }
+    let long = Battery { id: 5, ..short };
+    for room in [9, 8] {
+        payload(rt, long, room)?;
+    }
+    for (room, dest) in [
+        (13, 0xC8),
+        (12, 0xC8),
+        (13, 0xC9),
+        (12, 0xC9),
+        (0, 0xC8),
+        (3, 0xC8),
+        (4, 0xC8),
+        (3, 0xC9),
+    ] {
+        framed(rt, long, room, dest)?;
+    }
+    Ok(())
 }
 
-pub fn cases() {
-    capacity(16777215);
-    capacity(16777216);
-    capacity(4294967295);
+pub fn cases(rt: &impl Print) -> io::Result<()> {
+    for capacity_used in [16777215, 16777216, 4294967295] {
+        capacity(rt, capacity_used)?;
+    }
+    Ok(())
 }

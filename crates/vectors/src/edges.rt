@@ -1,67 +1,51 @@
 // Both sides of each edge of the rules, and that 0 reads as -10000 dm. What the library gives is written line by line.
-use crate::show::{STDOUT_FILENO, payload, spelled};
-use altitude::Decimetres;
+ghost use Rattle.std.specs.Prelude.{◌<◌};
+
+use crate::show::{Hex, front};
+use altitude::{Decimetres, baro_altitude, pack_altitude};
 use channels::RcChannelsPacked;
+use layout::CrsfPacket;
 use lines::line::put_held;
 use listing::list_in;
-use listing::numbering::Numbering;
 use records::battery::Battery;
+use std::io;
+use std::io::Write;
 use stream::LIMIT;
 
 // The listing of a whole stream.
-fn gives(input: &[u8]) {
-    spelled(input);
-    io::write_all(STDOUT_FILENO, b"gives\n");
+fn gives(rt: &impl Print, input: &[u8]) -> io::Result<()> {
+    println!(rt; "{}gives", Hex(input))?;
     let mut places = [0u8; LIMIT];
     let mut out = [0u8; 256];
-    let listed = list_in(&mut places, 0, 0, Numbering::Off, input, &mut out);
-    let n = listed.written;
-    if n <= out.len() {
-        io::write_all(STDOUT_FILENO, &out[0..n]);
-    }
-    let start = listed.start;
-    let end = listed.end;
-    if start <= end {
-        if end - start < LIMIT {
-            let m = put_held((end - start) as u8, &mut out, 0);
-            if m <= out.len() {
-                io::write_all(STDOUT_FILENO, &out[0..m]);
-            }
-        }
-    }
+    let mut stdout = io::writer(rt);
+    let Ok(listed) = list_in(&mut places, 0, 0, None, input, &mut out) else {
+        return Ok(());
+    };
+    stdout.write_all(&out[..listed.written])?;
+    let n = put_held((listed.end - listed.start) as u8, &mut out, 0);
+    stdout.write_all(&out[..n])
 }
 
-fn only_channel(i: usize) {
+fn only_channel(rt: &impl Print, index: usize) -> io::Result<()>
+    requires { index < 16 }
+{
     let mut channels = [0u16; 16];
-    if i < 16 {
-        channels[i] = 2047;
-    }
+    channels[index] = 2047;
     let mut buffer = [0u8; 22];
     let written = RcChannelsPacked(channels).to_bytes(&mut buffer);
-    payload(written, &buffer);
+    println!(rt; "{}", Hex(front(written, &buffer)))
 }
 
-fn packed(decimetres: i32) {
-    io::print_hex(
-        STDOUT_FILENO,
-        altitude::pack_altitude(Decimetres(decimetres)) as u64,
-        4,
-    );
-    io::write_all(STDOUT_FILENO, b"\n");
-}
-
-fn unpacked(word: u16, expected: i32) {
-    let altitude = altitude::baro_altitude(word);
-    io::print_hex(STDOUT_FILENO, word as u64, 4);
-    if altitude.0 == expected {
-        io::write_all(STDOUT_FILENO, b" as expected\n");
+fn unpacked(rt: &impl Print, word: u16, expected: i32) -> io::Result<()> {
+    let verdict = if baro_altitude(word).0 == expected {
+        "as expected"
     } else {
-        io::write_all(STDOUT_FILENO, b" DIFFERENT\n");
-    }
+        "DIFFERENT"
+    };
+    println!(rt; "{word:04x} {verdict}")
 }
 
-fn battery(id: u8) {
-    let mut buffer = [0u8; 16];
+fn battery(rt: &impl Print, id: u8) -> io::Result<()> {
     let record = Battery {
         voltage: 120,
         current: 15,
@@ -69,27 +53,31 @@ fn battery(id: u8) {
         remaining: 50,
         id,
     };
+    let mut buffer = [0u8; 16];
     let written = record.to_bytes(&mut buffer);
-    payload(written, &buffer);
+    println!(rt; "{}", Hex(front(written, &buffer)))
 }
 
-pub fn cases() {
-    gives(&[0xC8, 0x02, 0x00, 0x00]);
-    gives(&[0xC8, 0x02, 0x00, 0x01]);
-    gives(&[0xC8, 0x01]);
-    gives(&[0x00, 0x00]);
-    gives(&[0xC8, 0x3F]);
-    gives(&[0xC8, 0x3E]);
-    gives(&[0xC8]);
-    gives(&[0xC8, 0x02, 0x00, 0x00, 0x55, 0xC8, 0x02, 0x00]);
-    only_channel(0);
-    only_channel(15);
-    packed(22767);
-    packed(22768);
-    packed(327655);
-    packed(327656);
-    unpacked(0xFFFF, 327670);
-    unpacked(0, -10000);
-    battery(0);
-    battery(5);
+pub fn cases(rt: &impl Print) -> io::Result<()> {
+    gives(rt, &[0xC8, 0x02, 0x00, 0x00])?;
+    gives(rt, &[0xC8, 0x02, 0x00, 0x01])?;
+    gives(rt, &[0xC8, 0x01])?;
+    gives(rt, &[0x00, 0x00])?;
+    gives(rt, &[0xC8, 0x3F])?;
+    gives(rt, &[0xC8, 0x3E])?;
+    gives(rt, &[0xC8])?;
+    gives(rt, &[0xC8, 0x02, 0x00, 0x00, 0x55, 0xC8, 0x02, 0x00])?;
+    for index in [0, 15] {
+        only_channel(rt, index)?;
+    }
+    for decimetres in [22767, 22768, 327655, 327656] {
+        println!(rt; "{:04x}", pack_altitude(Decimetres(decimetres)))?;
+    }
+    for (word, expected) in [(0xFFFF, 327670), (0, -10000)] {
+        unpacked(rt, word, expected)?;
+    }
+    for id in [0, 5] {
+        battery(rt, id)?;
+    }
+    Ok(())
 }

@@ -9,23 +9,22 @@ mod lists;
 mod position_edges;
 mod series_edges;
 mod show;
-mod show_state;
 
-use show::heading;
+use std::io;
 
-fn main() {
-    heading(b"The check byte");
-    check_byte::vectors();
-    heading(b"Every byte as an address and as a packet type");
-    lists::every_byte();
-    heading(b"Both sides of each edge");
-    edges::cases();
-    heading(b"Batteries at both sides of the largest capacity");
-    battery_edges::cases();
-    heading(b"Bursts of channels at both sides of each edge");
-    burst_edges::cases();
-    heading(b"Series at both sides of each edge");
-    series_edges::cases();
-    heading(b"Positions and saved forms at both sides of each edge");
-    position_edges::cases();
+fn main(rt: HostRuntime) -> io::Result<()> {
+    println!(rt; "-- The check byte")?;
+    check_byte::vectors(&rt)?;
+    println!(rt; "-- Every byte as an address and as a packet type")?;
+    lists::every_byte(&rt)?;
+    println!(rt; "-- Both sides of each edge")?;
+    edges::cases(&rt)?;
+    println!(rt; "-- Batteries at both sides of the largest capacity")?;
+    battery_edges::cases(&rt)?;
+    println!(rt; "-- Bursts of channels at both sides of each edge")?;
+    burst_edges::cases(&rt)?;
+    println!(rt; "-- Series at both sides of each edge")?;
+    series_edges::cases(&rt)?;
+    println!(rt; "-- Positions and saved forms at both sides of each edge")?;
+    position_edges::cases(&rt)
 }

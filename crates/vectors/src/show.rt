@@ -1,66 +1,97 @@
-// Bytes on the standard output.
-use writing::Written;
+// What is printed more than once: bytes, a refusal, what a writer says and leaves, and a parser's state.
+use parser::CrsfParser;
+use refusals::{Refusal, row_of};
+use std::{fmt, io};
 
-// The standard output.
-pub const STDOUT_FILENO: i32 = 1;
+// Bytes in hexadecimal, with a space behind each.
+#[derive(Clone, Copy)]
+pub struct Hex<'a>(pub &'a [u8]);
 
-pub fn heading(text: &[u8]) {
-    io::write_all(STDOUT_FILENO, b"-- ");
-    io::write_all(STDOUT_FILENO, text);
-    io::write_all(STDOUT_FILENO, b"\n");
-}
-
-pub fn wide(b: u8) -> u64 {
-    b as u64
-}
-
-pub fn spelled(bytes: &[u8]) {
-    let mut i = 0;
-    while i < bytes.len() {
-        io::print_hex(STDOUT_FILENO, wide(bytes[i]), 2);
-        io::write_all(STDOUT_FILENO, b" ");
-        i += 1;
+impl fmt::Display for Hex<'_> {
+    fn fmt<W: fmt::Write>(&self, f: &mut fmt::Formatter<W>) -> fmt::Result {
+        for byte in self.0 {
+            write!(f, "{byte:02x} ")?;
+        }
+        Ok(())
     }
 }
 
-// The first n of the bytes, if there are that many.
-fn shown(bytes: &[u8], n: usize) {
-    if n <= bytes.len() {
-        spelled(&bytes[0..n]);
+// The bytes, or how many there are if they are many.
+#[derive(Clone, Copy)]
+pub struct Brief<'a>(pub &'a [u8]);
+
+impl fmt::Display for Brief<'_> {
+    fn fmt<W: fmt::Write>(&self, f: &mut fmt::Formatter<W>) -> fmt::Result {
+        match self.0.len() {
+            0 => write!(f, "nothing "),
+            1..=16 => write!(f, "{}", Hex(self.0)),
+            n => write!(f, "{n} bytes "),
+        }
     }
-    io::write_all(STDOUT_FILENO, b"\n");
 }
 
-// What was written; nothing where it was refused.
-pub fn payload(written: Written, buffer: &[u8]) {
+// A refusal, with what it carries.
+#[derive(Clone, Copy)]
+pub struct Refused(pub Refusal);
+
+impl fmt::Display for Refused {
+    fn fmt<W: fmt::Write>(&self, f: &mut fmt::Formatter<W>) -> fmt::Result {
+        let row = row_of(self.0);
+        write!(f, "refused {} {} {}", row.number, row.first, row.second)
+    }
+}
+
+// How many bytes were written, or the number of the refusal.
+#[derive(Clone, Copy)]
+pub struct Written(pub Result<usize, Refusal>);
+
+impl fmt::Display for Written {
+    fn fmt<W: fmt::Write>(&self, f: &mut fmt::Formatter<W>) -> fmt::Result {
+        match self.0 {
+            Ok(n) => write!(f, "bytes {n}"),
+            Err(refusal) => write!(f, "refused {}", row_of(refusal).number),
+        }
+    }
+}
+
+// What a parser holds, and where it stands.
+#[derive(Clone, Copy)]
+pub struct State(pub CrsfParser);
+
+impl fmt::Display for State {
+    fn fmt<W: fmt::Write>(&self, f: &mut fmt::Formatter<W>) -> fmt::Result {
+        let p = self.0;
+        match p.buffer.get(p.start..p.end) {
+            Some(held) => write!(f, "holds {}@{}", Brief(held), p.position),
+            None => write!(f, "start {} end {} @{}", p.start, p.end, p.position),
+        }
+    }
+}
+
+// The bytes that were written; none where it was refused.
+pub fn front(written: Result<usize, Refusal>, buffer: &[u8]) -> &[u8] {
     match written {
-        Written::Wrote(n) => shown(buffer, n),
-        Written::Refused(_) => shown(buffer, 0),
+        Ok(n) => buffer.get(..n).unwrap_or(&[]),
+        Err(_) => &[],
     }
-}
-
-pub fn named(name: &[u8], len: usize) {
-    io::write_all(STDOUT_FILENO, name);
-    io::print_decimal(STDOUT_FILENO, len as u64);
 }
 
 // What stands in a buffer before it is written.
 pub const BEFORE: u8 = 0xEE;
 
-// How many bytes were written, or the number of the refusal; then what the buffer has.
-pub fn left(written: Written, buffer: &[u8]) {
-    match written {
-        Written::Refused(refusal) => {
-            let row = refusals::row_of(refusal);
-            io::write_all(STDOUT_FILENO, b": refused ");
-            io::print_decimal(STDOUT_FILENO, row.number as u64);
-        }
-        Written::Wrote(n) => {
-            io::write_all(STDOUT_FILENO, b": bytes ");
-            io::print_decimal(STDOUT_FILENO, n as u64);
-        }
-    }
-    io::write_all(STDOUT_FILENO, b", left ");
-    spelled(buffer);
-    io::write_all(STDOUT_FILENO, b"\n");
+// No buffer has more places.
+const PLACES: usize = 210;
+
+// What a writer says, given a buffer of so many places, and what the buffer then has.
+pub fn show_left<S: fmt::Display + Drop, F: FnOnce(&mut [u8]) -> S>(
+    rt: &impl Print,
+    room: usize,
+    write: F,
+) -> io::Result<()>
+    requires { F.IsAlwaysCallable write }
+{
+    let mut places = [BEFORE; PLACES];
+    let buffer = &mut places[..room.min(PLACES)];
+    let said = write(buffer);
+    println!(rt; ": {said}, left {}", Hex(buffer))
 }

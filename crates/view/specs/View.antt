@@ -1,15 +1,15 @@
 -- Parts of lent bytes, and what any four bytes or more show as a frame.
 -- Assumes nothing.
-use Rattle.std.specs.Prelude.{ℕ, ◌-◌, Bool, false, List, [], ◌∷◌, length, get_or, ltb}
+use Rattle.std.specs.Prelude.{ℕ, ◌-◌, Bool, false, List, [], ◌∷◌, length, get_or, ltb, Result, Ok, Err}
 use Rattle.base.specs.Choice.{when◌then◌else◌}
 use Rattle.base.specs.Parts.{part}
 use Rattle.refusals.specs.Row.{row_of}
+use Rattle.refusals.specs.declared.Refusal.{Refusal}
 use Rattle.refusals.specs.declared.Refusal.TheVariants.{InvalidPayloadLength}
 use Rattle.stream.specs.Step.{bytes_at, is_held}
 use Rattle.stream.specs.declared.step.Reply.{Reply}
 use Rattle.stream.specs.declared.step.Reply.TheVariants.{More, Frame, Refused}
 use Rattle.view.specs.declared.RawView.{RawView}
-use Rattle.view.specs.declared.RawView.TheVariants.{View, Refused as NoView}
 
 -- the bytes that a reply points at, a part of the caller's piece or of the held bytes' places (RULES 6)
 unfoldable pub frame_of : Reply → List ℕ → List ℕ → List ℕ
@@ -24,9 +24,9 @@ of_held (Frame p) = is_held p
 of_held (Refused r) = false
 
 -- a raw view as a row: 0, address, type and check byte, or the refusal's
-unfoldable pub raw_row : RawView → List ℕ
-raw_row (View address kind check) = 0 ∷ address ∷ kind ∷ check ∷ []
-raw_row (NoView r) = row_of r
+unfoldable pub raw_row : Result RawView Refusal → List ℕ
+raw_row (Ok v) = 0 ∷ v.address ∷ v.kind ∷ v.check ∷ []
+raw_row (Err r) = row_of r
 
 -- of four bytes or more: byte 0, byte 2 and the last byte (RULES 8)
 unfoldable pub raw_of : List ℕ → List ℕ

@@ -19,48 +19,45 @@ fn bytes_at<'a>(place: Place, piece: &'a [u8], places: &'a [u8]) -> &'a [u8]
 }
 
 // The frame that a call answered with, as a part of the caller's piece or of the held bytes' places. Of any other reply, no bytes.
+#[tactic(auto, unfolding(crate::specs::View::frame_of))]
 pub fn frame<'a>(reply: Reply, piece: &'a [u8], places: &'a [u8]) -> &'a [u8]
     ensures { result.now ≡ frame_of reply piece.now places.now }
 {
     match reply {
         Reply::Frame(place) => bytes_at(place, piece, places),
-        Reply::More => &piece[..0],
-        Reply::Refused(_) => &piece[..0],
+        Reply::More | Reply::Refused(_) => &[],
     }
 }
 
 // What any four bytes or more show as a frame. Nothing else is checked.
 #[derive(Clone, Copy)]
-pub enum RawView {
-    View { address: u8, kind: u8, check: u8 },
-    Refused(Refusal),
+pub struct RawView {
+    pub address: u8,
+    pub kind: u8,
+    pub check: u8,
 }
 
-pub fn raw_view(s: &[u8]) -> RawView
+#[tactic(auto, unfolding(crate::specs::View::raw_row, crate::specs::View::raw_of))]
+pub fn raw_view(s: &[u8]) -> Result<RawView, Refusal>
     ensures { raw_row result ≡ raw_of s.now }
 {
-    let n = s.len();
-    if n < 4 {
-        return RawView::Refused(Refusal::InvalidPayloadLength);
-    }
-    let address = s[0];
-    let kind = s[2];
-    let check = s[n - 1];
-    RawView::View {
-        address,
-        kind,
-        check,
-    }
+    let [address, _, kind, .., check] = s else {
+        return Err(Refusal::InvalidPayloadLength);
+    };
+    Ok(RawView {
+        address: *address,
+        kind: *kind,
+        check: *check,
+    })
 }
 
 // The bytes between byte 2 and the last, or none of fewer than four bytes.
+#[tactic(auto, unfolding(crate::specs::View::payload_of))]
 pub fn payload(s: &[u8]) -> &[u8]
     ensures { result.now ≡ payload_of s.now }
 {
-    let n = s.len();
-    if n < 4 {
-        return &s[..0];
+    match s {
+        [_, _, _, payload @ .., _] => payload,
+        _ => &[],
     }
-    let last = n - 1;
-    &s[3..last]
 }

@@ -1,5 +1,6 @@
 -- What a call left: where a writer says that it wrote, all of its bytes at the front; where it refuses, every byte as it was.
 -- Assumes nothing.
+use Rattle.std.specs.Prelude.{Ok, Err}
 use Prim.Native.Nat.{ℕ, ◌≤◌}
 use mathlib.Core.Path.{◌≡◌, refl, sym, ap, subst, ◌∙◌}
 use mathlib.Core.List.{List, []}
@@ -15,7 +16,6 @@ use Rattle.refusals.specs.declared.Refusal.{Refusal}
 use Rattle.refusals.specs.declared.Refusal.TheVariants.{BufferOverflow}
 use Rattle.refusals.proofs.Rows.{not_zero}
 use Rattle.writing.specs.Writing.{Image, bytes, refused, wrote_row, written_row, write_of}
-use Rattle.writing.specs.declared.Written.TheVariants.{Wrote, Refused}
 
 -- a refusal is no bytes
 abbrev IsBytes : Image → Type 0
@@ -39,7 +39,7 @@ pub record Left (bs buffer : List ℕ) (n : ℕ) (after : List ℕ) : Type 0 whe
   pub room : length bs ≤ length buffer
   pub content : after ≡ pasted buffer 0 bs
 
-pub left : (bs buffer : List ℕ) (n : ℕ) {after : List ℕ} → (written_row (Wrote n), after) ≡ write_of (bytes bs) buffer → Left bs buffer n after
+pub left : (bs buffer : List ℕ) (n : ℕ) {after : List ℕ} → (written_row (Ok n), after) ≡ write_of (bytes bs) buffer → Left bs buffer n after
 unfolding write_of written_row
 left bs buffer n {after} e =
     by_test (leb (length bs) (length buffer))
@@ -64,13 +64,13 @@ pub record WroteBytes (image : Image) (buffer : List ℕ) (n : ℕ) (after : Lis
   pub is : image ≡ bytes written
   pub left_so : Left written buffer n after
 
-pub wrote_bytes : (image : Image) (buffer : List ℕ) (n : ℕ) {after : List ℕ} → (written_row (Wrote n), after) ≡ write_of image buffer → WroteBytes image buffer n after
+pub wrote_bytes : (image : Image) (buffer : List ℕ) (n : ℕ) {after : List ℕ} → (written_row (Ok n), after) ≡ write_of image buffer → WroteBytes image buffer n after
 unfolding write_of written_row
 wrote_bytes (bytes bs) buffer n e = record { written = bs; is = refl; left_so = left bs buffer n e }
 wrote_bytes (refused r) buffer n e = absurd (not_zero r (sym (ap (λ (x : List ℕ × List ℕ). x.0) e)))
 
 -- a refused call changes no byte
-pub kept : (image : Image) (r : Refusal) {buffer after : List ℕ} → (written_row (Refused r), after) ≡ write_of image buffer → after ≡ buffer
+pub kept : (image : Image) (r : Refusal) {buffer after : List ℕ} → (written_row (Err r), after) ≡ write_of image buffer → after ≡ buffer
 unfolding write_of written_row
 kept (refused s) r e = ap (λ (x : List ℕ × List ℕ). x.1) e
 kept (bytes bs) r {buffer} {after} e =

@@ -1,20 +1,20 @@
 -- What a writer says is told by its row, so a promise of the row leaves one answer.
 -- Assumes nothing.
+use Rattle.std.specs.Prelude.{Ok, Err}
 use Prim.Native.Nat.{ℕ}
 use mathlib.Core.Path.{◌≡◌, sym, ap, ap₂, ◌∙◌}
 use mathlib.Core.List.{List}
 use lib.ListN.{get_or}
 use Rattle.refusals.proofs.Rows.{one_refusal, not_zero}
-use Rattle.writing.specs.declared.Written.{Written}
-use Rattle.writing.specs.declared.Written.TheVariants.{Wrote, Refused}
+use Rattle.writing.specs.Writing.{Written}
 use Rattle.writing.specs.Writing.{written_row}
 
 by_cases : (w v : Written) → written_row w ≡ written_row v → w ≡ v
 unfolding written_row
-by_cases (Wrote n) (Wrote k) same = ap (λ (row : List ℕ). Wrote (get_or row 1 0)) same
-by_cases (Wrote n) (Refused s) same = absurd (not_zero s (sym same))
-by_cases (Refused r) (Wrote k) same = absurd (not_zero r same)
-by_cases (Refused r) (Refused s) same = ap Refused (one_refusal same)
+by_cases (Ok n) (Ok k) same = ap (λ (row : List ℕ). Ok (get_or row 1 0)) same
+by_cases (Ok n) (Err s) same = absurd (not_zero s (sym same))
+by_cases (Err r) (Ok k) same = absurd (not_zero r same)
+by_cases (Err r) (Err s) same = ap Err (one_refusal same)
 
 pub one_written : {w v : Written} → written_row w ≡ written_row v → w ≡ v
 one_written {w} {v} = by_cases w v

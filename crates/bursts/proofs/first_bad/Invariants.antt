@@ -1,13 +1,10 @@
 -- `bursts::first_bad` meets its contract. The invariant: the sets passed have no channel above 2047.
 -- Assumes nothing.
 use mathlib.Core.Path.{◌≡◌}
-use Prim.Native.Nat.{◌+◌, ◌-◌, ◌≤◌}
+use Prim.Native.Nat.{◌+◌}
 use lib.ListN.{drop}
 use Rattle.bursts.specs.Burst.{first_bad, sixteens}
 use Rattle.bursts.proofs.first_bad.Given as goal
 
 abbrev pub invariant-loop-k : goal.invariant-loop-k
-invariant-loop-k l = (l.k ≤ l.count) × (first_bad (sixteens l.count l.channels) ≡ l.k + first_bad (drop l.k (sixteens l.count l.channels)))
-
-abbrev pub decreases-loop-k : goal.decreases-loop-k
-decreases-loop-k l = l.count - l.k
+invariant-loop-k l = first_bad (sixteens l.count l.channels) ≡ l.k + first_bad (drop l.k (sixteens l.count l.channels))

@@ -18,14 +18,14 @@ use Rattle.bursts.proofs.put_sets.Goals as goal
 
 pub loop-k-init : goal.loop-k-init
 loop-k-init c =
-    (omega arith, sym (pasted_nil _ 0))
+    sym (pasted_nil _ 0)
 
 pub slice_bounds-put_rc_channels-count : goal.slice_bounds-put_rc_channels-count
 slice_bounds-put_rc_channels-count c =
     let Counted : List (List ℕ) = sixteens c.args.count c.args.channels.now in
     let all_there : length Counted ≡ c.args.count = length_sixteens c.args.count c.args.channels.now in
     let same : length c.loop-k.buffer ≡ length c.args.buffer.now = let a = c.args in
-    ap length c.loop-k.invariant.1 ∙ length_filled a.dest Counted a.buffer.now c.loop-k.k (omega (arith, all_there)) (omega arith) in
+    ap length c.loop-k.invariant ∙ length_filled a.dest Counted a.buffer.now c.loop-k.k (omega (arith, all_there)) (omega arith) in
     omega (arith, same)
 
 pub slice_bounds-put_rc_channels-start : goal.slice_bounds-put_rc_channels-start
@@ -33,7 +33,7 @@ slice_bounds-put_rc_channels-start c =
     let Counted : List (List ℕ) = sixteens c.args.count c.args.channels.now in
     let all_there : length Counted ≡ c.args.count = length_sixteens c.args.count c.args.channels.now in
     let same : length c.loop-k.buffer ≡ length c.args.buffer.now = let a = c.args in
-    ap length c.loop-k.invariant.1 ∙ length_filled a.dest Counted a.buffer.now c.loop-k.k (omega (arith, all_there)) (omega arith) in
+    ap length c.loop-k.invariant ∙ length_filled a.dest Counted a.buffer.now c.loop-k.k (omega (arith, all_there)) (omega arith) in
     omega (arith, same)
 
 pub shape_of-buffer : goal.shape_of-buffer
@@ -41,7 +41,7 @@ shape_of-buffer c =
     let Counted : List (List ℕ) = sixteens c.args.count c.args.channels.now in
     let all_there : length Counted ≡ c.args.count = length_sixteens c.args.count c.args.channels.now in
     let same : length c.loop-k.buffer ≡ length c.args.buffer.now = let a = c.args in
-    ap length c.loop-k.invariant.1 ∙ length_filled a.dest Counted a.buffer.now c.loop-k.k (omega (arith, all_there)) (omega arith) in
+    ap length c.loop-k.invariant ∙ length_filled a.dest Counted a.buffer.now c.loop-k.k (omega (arith, all_there)) (omega arith) in
     same
 
 pub returns : goal.returns
@@ -50,7 +50,7 @@ returns c =
     let all_there : length Counted ≡ c.args.count = length_sixteens c.args.count c.args.channels.now in
     let a = c.args in
     let sets = Counted in
-    c.loop-k.invariant.1
+    c.loop-k.invariant
     ∙ ap (λ (l : List (List ℕ)). pasted a.buffer.now 0 (joined (set_frames a.dest l))) (take_all c.loop-k.k sets (omega (arith, all_there)))
 
 pub loop-k-preserved : goal.loop-k-preserved
@@ -58,7 +58,7 @@ loop-k-preserved c =
     let Counted : List (List ℕ) = sixteens c.args.count c.args.channels.now in
     let all_there : length Counted ≡ c.args.count = length_sixteens c.args.count c.args.channels.now in
     let same : length c.loop-k.buffer ≡ length c.args.buffer.now = let a = c.args in
-    ap length c.loop-k.invariant.1 ∙ length_filled a.dest Counted a.buffer.now c.loop-k.k (omega (arith, all_there)) (omega arith) in
+    ap length c.loop-k.invariant ∙ length_filled a.dest Counted a.buffer.now c.loop-k.k (omega (arith, all_there)) (omega arith) in
     let a = c.args in
     let k = c.loop-k.k in
     let at = k * frame_size in
@@ -67,12 +67,10 @@ loop-k-preserved c =
     let set = part a.channels.now (k * channels_count) channels_count in
     let is : get_or sets k [] ≡ set = sixteens_at a.count a.channels.now k c.loop-k-test.true in
     let good = ltb-false (first_above (get_or sets k [])) channels_count (before_first bad [] sets k (omega (arith, c.requires.frame_size_in_bounds.1))) in
-    let sixteen = length_part a.channels.now (k * channels_count) channels_count (omega arith) in (
-      omega arith,
-      put_next a.dest set buffer at sixteen (rw is at good) (omega (arith, same))
-          (c.put_rc_channels.ensures
-          ∙ ap (λ (x : RcChannelsPacked). placed (cut_out buffer at (length buffer)) 0 (set_frame a.dest (low_bits x.0))) c.set_at.ensures)
-          ∙ ap (λ (l : List ℕ). pasted buffer at (set_frame a.dest l)) (sym is)
-          ∙ ap (λ (l : List ℕ). pasted l at (set_frame a.dest (get_or sets k []))) c.loop-k.invariant.1
-          ∙ fill_next a.dest sets a.buffer.now k (omega (arith, all_there)) (omega arith),
-    )
+    let sixteen = length_part a.channels.now (k * channels_count) channels_count (omega arith) in
+    put_next a.dest set buffer at sixteen (rw is at good) (omega (arith, same))
+    (c.put_rc_channels.ensures
+    ∙ ap (λ (x : RcChannelsPacked). placed (cut_out buffer at (length buffer)) 0 (set_frame a.dest (low_bits x.0))) c.set_at.ensures)
+    ∙ ap (λ (l : List ℕ). pasted buffer at (set_frame a.dest l)) (sym is)
+    ∙ ap (λ (l : List ℕ). pasted l at (set_frame a.dest (get_or sets k []))) c.loop-k.invariant
+    ∙ fill_next a.dest sets a.buffer.now k (omega (arith, all_there)) (omega arith)

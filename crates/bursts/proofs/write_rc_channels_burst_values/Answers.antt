@@ -1,5 +1,6 @@
 -- `bursts::write_rc_channels_burst_values` meets its contract: each test refuses what the image refuses there, and past them all the frames are written.
 -- Assumes nothing.
+use Rattle.std.specs.Prelude.{Ok, Err}
 use mathlib.Core.Path.{◌≡◌, sym, ap, ap₂, ◌∙◌}
 use mathlib.Core.Bool.{true}
 use mathlib.Core.List.{List, []}
@@ -13,13 +14,11 @@ use Rattle.packets.specs.Listed.{listed}
 use Rattle.reading.specs.Frame.{joined}
 use Rattle.refusals.specs.declared.Refusal.TheVariants.{SetChannelRange}
 use Rattle.writing.specs.Writing.{bytes, written_row}
-use Rattle.writing.specs.declared.Written.TheVariants.{Wrote, Refused}
 use Rattle.writing.proofs.Writing.{writes, overflows, refuses}
 use Rattle.channels.specs.Channels.{channels_count, first_above}
-use Rattle.channels.specs.declared.RcChannelsPacked.{RcChannelsPacked}
 use Rattle.bursts.specs.Burst.{frame_size, bad, first_bad, set_frames, sets_image, sixteens, values_image}
-use Rattle.bursts.proofs.Images.{sets_refused, sets_bytes}
-use Rattle.bursts.proofs.Sixteens.{length_sixteens, sixteens_at, values_address, values_count, values_short, values_sets}
+use Rattle.bursts.proofs.Images.{sets_refused, sets_bytes, bad_found, bad_none}
+use Rattle.bursts.proofs.Sixteens.{length_sixteens, values_address, values_count, values_short, values_sets}
 use Rattle.bursts.proofs.Turns.{frames_long}
 use mathlib.Core.Bool.{not}
 use Rattle.bursts.proofs.write_rc_channels_burst_values.Goals as goal
@@ -44,75 +43,60 @@ returns-then-channels-count c =
 
 pub returns-then-buffer-size : goal.returns-then-buffer-size
 returns-then-buffer-size c =
-    let Counted : List (List ℕ) = sixteens c.args.count c.args.channels.now in
-    let address : listed c.args.dest ≡ true = not-false (listed c.args.dest) (not_as c.is_address.ensures (ap not c.if-not-is_address.false)) in
-    let image_is : (let a = c.args in values_image a.dest a.channels.now a.count ≡ sets_image a.dest Counted) = let a = c.args in
-    values_sets a.dest a.channels.now a.count address (omega (arith, c.if-count-gt-SETS.false)) c.if-channels-count.false in
-    let all_there : length Counted ≡ c.args.count = length_sixteens c.args.count c.args.channels.now in
-    let good : length Counted ≤ first_bad Counted = omega (arith, all_there, c.first_bad-bad.ensures, c.if-bad-count.false) in
-    let image : (let a = c.args in values_image a.dest a.channels.now a.count ≡ bytes (joined (set_frames a.dest Counted))) = image_is ∙ sets_bytes c.args.dest Counted good in
-    let long : (let a = c.args in length (joined (set_frames a.dest Counted)) ≡ a.count * frame_size) = frames_long c.args.dest Counted ∙ ap (λ (n : ℕ). n * frame_size) all_there in
     let a = c.args in
+    let sets : List (List ℕ) = sixteens a.count a.channels.now in
+    let address : listed a.dest ≡ true = not-false (listed a.dest) (not_as c.is_address.ensures (ap not c.if-not-is_address.false)) in
+    let all_there : length sets ≡ a.count = length_sixteens a.count a.channels.now in
+    let good : length sets ≤ first_bad sets = bad_none sets (sym c.in_default.ensures) in
+    let image : values_image a.dest a.channels.now a.count ≡ bytes (joined (set_frames a.dest sets)) =
+    values_sets a.dest a.channels.now a.count address (omega (arith, c.if-count-gt-SETS.false)) c.if-channels-count.false ∙ sets_bytes a.dest sets good in
+    let long : length (joined (set_frames a.dest sets)) ≡ a.count * frame_size = frames_long a.dest sets ∙ ap (λ (n : ℕ). n * frame_size) all_there in
     rw image (overflows _ a.buffer.now (a.count * frame_size) long c.if-buffer-size.true)
 
 pub put_sets-requires : goal.put_sets-requires
 put_sets-requires c =
-    record { count_le_most_sets = (omega (arith, c.if-count-gt-SETS.false), c.if-channels-count.false); frame_size_in_bounds = (c.if-buffer-size.false, omega (arith, c.first_bad-bad.ensures, c.if-bad-count.false)) }
+    let sets : List (List ℕ) = sixteens c.args.count c.args.channels.now in
+    let good : length sets ≤ first_bad sets = bad_none sets (sym c.in_default.ensures) in
+    record { count_le_most_sets = (omega (arith, c.if-count-gt-SETS.false), c.if-channels-count.false); frame_size_in_bounds = (c.if-buffer-size.false, omega (arith, good, length_sixteens c.args.count c.args.channels.now)) }
 
 pub returns : goal.returns
 returns c =
-    let Counted : List (List ℕ) = sixteens c.args.count c.args.channels.now in
-    let address : listed c.args.dest ≡ true = not-false (listed c.args.dest) (not_as c.is_address.ensures (ap not c.if-not-is_address.false)) in
-    let image_is : (let a = c.args in values_image a.dest a.channels.now a.count ≡ sets_image a.dest Counted) = let a = c.args in
-    values_sets a.dest a.channels.now a.count address (omega (arith, c.if-count-gt-SETS.false)) c.if-channels-count.false in
-    let all_there : length Counted ≡ c.args.count = length_sixteens c.args.count c.args.channels.now in
-    let good : length Counted ≤ first_bad Counted = omega (arith, all_there, c.first_bad-bad.ensures, c.if-bad-count.false) in
-    let image : (let a = c.args in values_image a.dest a.channels.now a.count ≡ bytes (joined (set_frames a.dest Counted))) = image_is ∙ sets_bytes c.args.dest Counted good in
-    let long : (let a = c.args in length (joined (set_frames a.dest Counted)) ≡ a.count * frame_size) = frames_long c.args.dest Counted ∙ ap (λ (n : ℕ). n * frame_size) all_there in
     let a = c.args in
+    let sets : List (List ℕ) = sixteens a.count a.channels.now in
+    let address : listed a.dest ≡ true = not-false (listed a.dest) (not_as c.is_address.ensures (ap not c.if-not-is_address.false)) in
+    let all_there : length sets ≡ a.count = length_sixteens a.count a.channels.now in
+    let good : length sets ≤ first_bad sets = bad_none sets (sym c.in_default.ensures) in
+    let image : values_image a.dest a.channels.now a.count ≡ bytes (joined (set_frames a.dest sets)) =
+    values_sets a.dest a.channels.now a.count address (omega (arith, c.if-count-gt-SETS.false)) c.if-channels-count.false ∙ sets_bytes a.dest sets good in
+    let long : length (joined (set_frames a.dest sets)) ≡ a.count * frame_size = frames_long a.dest sets ∙ ap (λ (n : ℕ). n * frame_size) all_there in
     rw image
-    (ap (λ (l : List ℕ). (written_row (Wrote (a.count * frame_size)), l)) c.put_sets.ensures
+    (ap (λ (l : List ℕ). (written_row (Ok (a.count * frame_size)), l)) c.put_sets.ensures
     ∙ writes _ a.buffer.now (a.count * frame_size) long c.if-buffer-size.false)
 
 pub overflow_cast-set : goal.overflow_cast-set
 overflow_cast-set c =
     let sets : List (List ℕ) = sixteens c.args.count c.args.channels.now in
     let all_there : length sets ≡ c.args.count = length_sixteens c.args.count c.args.channels.now in
-    let set_is : c.first_bad-bad.result ≡ first_bad sets = c.first_bad-bad.ensures in
-    let less : first_bad sets < length sets = omega (arith, set_is, all_there, c.if-bad-count.true) in
-    omega (arith, set_is, less, all_there, c.if-count-gt-SETS.false)
+    let found = bad_found sets (sym c.in-Some.ensures) in
+    omega (arith, found.0, found.1, all_there, c.if-count-gt-SETS.false)
 
 pub overflow_cast-channel : goal.overflow_cast-channel
 overflow_cast-channel c =
     let sets : List (List ℕ) = sixteens c.args.count c.args.channels.now in
     let all_there : length sets ≡ c.args.count = length_sixteens c.args.count c.args.channels.now in
-    let set_is : c.first_bad-bad.result ≡ first_bad sets = c.first_bad-bad.ensures in
-    let less : first_bad sets < length sets = omega (arith, set_is, all_there, c.if-bad-count.true) in
+    let found = bad_found sets (sym c.in-Some.ensures) in
     let place : first_above (get_or sets (first_bad sets) []) < channels_count =
-    ltb-true (first_above (get_or sets (first_bad sets) [])) channels_count (first_found bad [] sets less) in
-    let place_is : c.first_above-above.result ≡ first_above (get_or sets (first_bad sets) []) =
-    c.first_above-above.ensures
-    ∙ ap (λ (set : RcChannelsPacked). first_above set.0) c.set_at.ensures
-    ∙ ap first_above (sym (sixteens_at c.args.count c.args.channels.now c.first_bad-bad.result c.if-bad-count.true))
-    ∙ ap (λ (j : ℕ). first_above (get_or sets j [])) set_is in
-    omega (arith, place_is, place)
+    ltb-true (first_above (get_or sets (first_bad sets) [])) channels_count (first_found bad [] sets found.0) in
+    omega (arith, found.2, place)
 
-pub returns-then-bad-count : goal.returns-then-bad-count
-returns-then-bad-count c =
-    let address : listed c.args.dest ≡ true = not-false (listed c.args.dest) (not_as c.is_address.ensures (ap not c.if-not-is_address.false)) in
-    let sets : List (List ℕ) = sixteens c.args.count c.args.channels.now in
-    let all_there : length sets ≡ c.args.count = length_sixteens c.args.count c.args.channels.now in
-    let set_is : c.first_bad-bad.result ≡ first_bad sets = c.first_bad-bad.ensures in
-    let less : first_bad sets < length sets = omega (arith, set_is, all_there, c.if-bad-count.true) in
-    let place : first_above (get_or sets (first_bad sets) []) < channels_count =
-    ltb-true (first_above (get_or sets (first_bad sets) [])) channels_count (first_found bad [] sets less) in
-    let place_is : c.first_above-above.result ≡ first_above (get_or sets (first_bad sets) []) =
-    c.first_above-above.ensures
-    ∙ ap (λ (set : RcChannelsPacked). first_above set.0) c.set_at.ensures
-    ∙ ap first_above (sym (sixteens_at c.args.count c.args.channels.now c.first_bad-bad.result c.if-bad-count.true))
-    ∙ ap (λ (j : ℕ). first_above (get_or sets j [])) set_is in
+pub returns-in-Some : goal.returns-in-Some
+returns-in-Some c =
     let a = c.args in
+    let sets : List (List ℕ) = sixteens a.count a.channels.now in
+    let address : listed a.dest ≡ true = not-false (listed a.dest) (not_as c.is_address.ensures (ap not c.if-not-is_address.false)) in
+    let all_there : length sets ≡ a.count = length_sixteens a.count a.channels.now in
+    let found = bad_found sets (sym c.in-Some.ensures) in
     let image_is : values_image a.dest a.channels.now a.count ≡ sets_image a.dest sets =
     values_sets a.dest a.channels.now a.count address (omega (arith, c.if-count-gt-SETS.false)) c.if-channels-count.false in
-    rw (image_is, sets_refused a.dest sets less)
-    (ap₂ (λ (x y : ℕ). (written_row (Refused (SetChannelRange x y)), a.buffer.now)) set_is place_is ∙ refuses _ a.buffer.now)
+    rw (image_is, sets_refused a.dest sets found.0)
+    (ap₂ (λ (x y : ℕ). (written_row (Err (SetChannelRange x y)), a.buffer.now)) (sym found.1) (sym found.2) ∙ refuses _ a.buffer.now)

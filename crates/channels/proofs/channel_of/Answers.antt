@@ -13,7 +13,7 @@ use Rattle.channels.proofs.channel_of.Goals as goal
 pub returns : goal.returns
 unfolding number places
 returns c =
-    let window : c.byte_at-low.result + c.byte_at-middle.result * 256 + c.byte_at-high.result * 65536
+    let window : c.from-low.result + c.from-middle.result * 256 + c.from-high.result * 65536
     ≡ number 8 (places 3 (c.args.i * 11 / 8) c.args.payload.now) = let payload = c.args.payload.now in
     let at = c.args.i * 11 / 8 in
     omega (arith, ap (λ (n : ℕ). get_or payload n 0) (add-one at), ap (λ (n : ℕ). get_or payload n 0) (add-two at)) in
@@ -21,4 +21,4 @@ returns c =
     let i = c.args.i in
     let at = i * 11 / 8 in
     ap (λ (w : ℕ). w / 2 ^ (i * 11 % 8) % 2048) window
-    ∙ regroup 8 11 channels_count 3 at (i * 11 % 8) payload i (λ j. (c.shared_slice_known-1.given j).fits) (omega arith) (omega arith) (omega arith)
+    ∙ regroup 8 11 channels_count 3 at (i * 11 % 8) payload i (λ j. (c.type_inv.payload j).fits) (omega arith) (omega arith) (omega arith)

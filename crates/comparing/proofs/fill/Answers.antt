@@ -17,9 +17,9 @@ use Rattle.comparing.proofs.fill.Goals as goal
 pub loop-out-init : goal.loop-out-init
 unfolding is_within
 loop-out-init c =
-    let counted : (let a = c.args in a.agree + a.differ + 1 + length a.left.now + length a.right.now ≤ greatest) = leb-true _ _ c.requires in
+    let counted : (let a = c.args in a.counts.agree + a.counts.differ + 1 + length a.left.bytes.now + length a.right.bytes.now ≤ greatest) = leb-true _ _ c.requires in
     let a = c.args in
-    begin a.left.now a.left_ends a.right.now a.right_ends a.agree a.differ a.out.now counted
+    begin a.left.bytes.now a.left.ends a.right.bytes.now a.right.ends a.counts.agree a.counts.differ a.out.now counted
 
 pub overflow_sub-out : goal.overflow_sub-out
 overflow_sub-out c =
@@ -49,14 +49,14 @@ turn-one-requires c =
 pub overflow_add-l : goal.overflow_add-l
 overflow_add-l c =
     let turn : (let a = c.args in let s = c.loop-out in let one = c.turn-one in
-    Turns (turn_of s.n s.d a.left_ends a.right_ends (drop s.l a.left.now) (drop s.r a.right.now)) s.out s.at
+    Turns (turn_of s.so_far.agree s.so_far.differ a.left.ends a.right.ends (drop s.l a.left.bytes.now) (drop s.r a.right.bytes.now)) s.out s.at
     one.new.out one.result) = let a = c.args in
     let s = c.loop-out in
     let one = c.turn-one in
     subst
     (λ (x : List ℕ × List ℕ).
-    Turns (turn_of s.n s.d a.left_ends a.right_ends x.0 x.1) s.out s.at one.new.out one.result)
-    (ap₂ (λ (x y : List ℕ). (x, y)) (unread_is a.left.now s.l) (unread_is a.right.now s.r))
+    Turns (turn_of s.so_far.agree s.so_far.differ a.left.ends a.right.ends x.0 x.1) s.out s.at one.new.out one.result)
+    (ap₂ (λ (x y : List ℕ). (x, y)) (unread_is a.left.bytes.now s.l) (unread_is a.right.bytes.now s.r))
     one.ensures in
     let many : (longest_turn ≤ length c.args.out.now - c.loop-out.at) = omega (arith, c.loop-out-test.true, c.loop-out.invariant.out_size) in
     omega (arith, takes_left c.loop-out.invariant many turn)
@@ -64,14 +64,14 @@ overflow_add-l c =
 pub overflow_add-r : goal.overflow_add-r
 overflow_add-r c =
     let turn : (let a = c.args in let s = c.loop-out in let one = c.turn-one in
-    Turns (turn_of s.n s.d a.left_ends a.right_ends (drop s.l a.left.now) (drop s.r a.right.now)) s.out s.at
+    Turns (turn_of s.so_far.agree s.so_far.differ a.left.ends a.right.ends (drop s.l a.left.bytes.now) (drop s.r a.right.bytes.now)) s.out s.at
     one.new.out one.result) = let a = c.args in
     let s = c.loop-out in
     let one = c.turn-one in
     subst
     (λ (x : List ℕ × List ℕ).
-    Turns (turn_of s.n s.d a.left_ends a.right_ends x.0 x.1) s.out s.at one.new.out one.result)
-    (ap₂ (λ (x y : List ℕ). (x, y)) (unread_is a.left.now s.l) (unread_is a.right.now s.r))
+    Turns (turn_of s.so_far.agree s.so_far.differ a.left.ends a.right.ends x.0 x.1) s.out s.at one.new.out one.result)
+    (ap₂ (λ (x y : List ℕ). (x, y)) (unread_is a.left.bytes.now s.l) (unread_is a.right.bytes.now s.r))
     one.ensures in
     let many : (longest_turn ≤ length c.args.out.now - c.loop-out.at) = omega (arith, c.loop-out-test.true, c.loop-out.invariant.out_size) in
     omega (arith, takes_right c.loop-out.invariant many turn)
@@ -79,14 +79,14 @@ overflow_add-r c =
 pub shape_of-out-then-not-goes_on : goal.shape_of-out-then-not-goes_on
 shape_of-out-then-not-goes_on c =
     let turn : (let a = c.args in let s = c.loop-out in let one = c.turn-one in
-    Turns (turn_of s.n s.d a.left_ends a.right_ends (drop s.l a.left.now) (drop s.r a.right.now)) s.out s.at
+    Turns (turn_of s.so_far.agree s.so_far.differ a.left.ends a.right.ends (drop s.l a.left.bytes.now) (drop s.r a.right.bytes.now)) s.out s.at
     one.new.out one.result) = let a = c.args in
     let s = c.loop-out in
     let one = c.turn-one in
     subst
     (λ (x : List ℕ × List ℕ).
-    Turns (turn_of s.n s.d a.left_ends a.right_ends x.0 x.1) s.out s.at one.new.out one.result)
-    (ap₂ (λ (x y : List ℕ). (x, y)) (unread_is a.left.now s.l) (unread_is a.right.now s.r))
+    Turns (turn_of s.so_far.agree s.so_far.differ a.left.ends a.right.ends x.0 x.1) s.out s.at one.new.out one.result)
+    (ap₂ (λ (x y : List ℕ). (x, y)) (unread_is a.left.bytes.now s.l) (unread_is a.right.bytes.now s.r))
     one.ensures in
     let many : (longest_turn ≤ length c.args.out.now - c.loop-out.at) = omega (arith, c.loop-out-test.true, c.loop-out.invariant.out_size) in
     same_size c.loop-out.invariant many turn
@@ -94,14 +94,14 @@ shape_of-out-then-not-goes_on c =
 pub returns-then-not-goes_on : goal.returns-then-not-goes_on
 returns-then-not-goes_on c =
     let turn : (let a = c.args in let s = c.loop-out in let one = c.turn-one in
-    Turns (turn_of s.n s.d a.left_ends a.right_ends (drop s.l a.left.now) (drop s.r a.right.now)) s.out s.at
+    Turns (turn_of s.so_far.agree s.so_far.differ a.left.ends a.right.ends (drop s.l a.left.bytes.now) (drop s.r a.right.bytes.now)) s.out s.at
     one.new.out one.result) = let a = c.args in
     let s = c.loop-out in
     let one = c.turn-one in
     subst
     (λ (x : List ℕ × List ℕ).
-    Turns (turn_of s.n s.d a.left_ends a.right_ends x.0 x.1) s.out s.at one.new.out one.result)
-    (ap₂ (λ (x y : List ℕ). (x, y)) (unread_is a.left.now s.l) (unread_is a.right.now s.r))
+    Turns (turn_of s.so_far.agree s.so_far.differ a.left.ends a.right.ends x.0 x.1) s.out s.at one.new.out one.result)
+    (ap₂ (λ (x y : List ℕ). (x, y)) (unread_is a.left.bytes.now s.l) (unread_is a.right.bytes.now s.r))
     one.ensures in
     let many : (longest_turn ≤ length c.args.out.now - c.loop-out.at) = omega (arith, c.loop-out-test.true, c.loop-out.invariant.out_size) in (
       last c.loop-out.invariant many turn (not-true _ (not_as c.goes_on.ensures (ap not c.if-not-goes_on.true))),
@@ -111,14 +111,14 @@ returns-then-not-goes_on c =
 pub loop-out-smaller : goal.loop-out-smaller
 loop-out-smaller c =
     let turn : (let a = c.args in let s = c.loop-out in let one = c.turn-one in
-    Turns (turn_of s.n s.d a.left_ends a.right_ends (drop s.l a.left.now) (drop s.r a.right.now)) s.out s.at
+    Turns (turn_of s.so_far.agree s.so_far.differ a.left.ends a.right.ends (drop s.l a.left.bytes.now) (drop s.r a.right.bytes.now)) s.out s.at
     one.new.out one.result) = let a = c.args in
     let s = c.loop-out in
     let one = c.turn-one in
     subst
     (λ (x : List ℕ × List ℕ).
-    Turns (turn_of s.n s.d a.left_ends a.right_ends x.0 x.1) s.out s.at one.new.out one.result)
-    (ap₂ (λ (x y : List ℕ). (x, y)) (unread_is a.left.now s.l) (unread_is a.right.now s.r))
+    Turns (turn_of s.so_far.agree s.so_far.differ a.left.ends a.right.ends x.0 x.1) s.out s.at one.new.out one.result)
+    (ap₂ (λ (x y : List ℕ). (x, y)) (unread_is a.left.bytes.now s.l) (unread_is a.right.bytes.now s.r))
     one.ensures in
     let many : (longest_turn ≤ length c.args.out.now - c.loop-out.at) = omega (arith, c.loop-out-test.true, c.loop-out.invariant.out_size) in
     less c.loop-out.invariant many turn (not-false _ (not_as c.goes_on.ensures (ap not c.if-not-goes_on.false)))
@@ -126,14 +126,14 @@ loop-out-smaller c =
 pub loop-out-preserved : goal.loop-out-preserved
 loop-out-preserved c =
     let turn : (let a = c.args in let s = c.loop-out in let one = c.turn-one in
-    Turns (turn_of s.n s.d a.left_ends a.right_ends (drop s.l a.left.now) (drop s.r a.right.now)) s.out s.at
+    Turns (turn_of s.so_far.agree s.so_far.differ a.left.ends a.right.ends (drop s.l a.left.bytes.now) (drop s.r a.right.bytes.now)) s.out s.at
     one.new.out one.result) = let a = c.args in
     let s = c.loop-out in
     let one = c.turn-one in
     subst
     (λ (x : List ℕ × List ℕ).
-    Turns (turn_of s.n s.d a.left_ends a.right_ends x.0 x.1) s.out s.at one.new.out one.result)
-    (ap₂ (λ (x y : List ℕ). (x, y)) (unread_is a.left.now s.l) (unread_is a.right.now s.r))
+    Turns (turn_of s.so_far.agree s.so_far.differ a.left.ends a.right.ends x.0 x.1) s.out s.at one.new.out one.result)
+    (ap₂ (λ (x y : List ℕ). (x, y)) (unread_is a.left.bytes.now s.l) (unread_is a.right.bytes.now s.r))
     one.ensures in
     let many : (longest_turn ≤ length c.args.out.now - c.loop-out.at) = omega (arith, c.loop-out-test.true, c.loop-out.invariant.out_size) in
     again c.loop-out.invariant many turn (not-false _ (not_as c.goes_on.ensures (ap not c.if-not-goes_on.false)))

@@ -7,7 +7,7 @@ use Rattle.comparing.proofs.Filled.{Filling}
 use Rattle.comparing.proofs.fill.Given as goal
 
 abbrev pub invariant-loop-out : goal.invariant-loop-out
-invariant-loop-out l = Filling l.left l.left_ends l.right l.right_ends (compare_of (length l.initial.out) l.agree l.differ l.left_ends l.right_ends l.left l.right) l.initial.out l.l l.r l.n l.d l.at l.out
+invariant-loop-out l = Filling l.left.bytes.now l.left.ends l.right.bytes.now l.right.ends (compare_of (length l.initial.out) l.fn.counts.agree l.fn.counts.differ l.left.ends l.right.ends l.left.bytes.now l.right.bytes.now) l.initial.out l.l l.r l.so_far.agree l.so_far.differ l.at l.out
 
 abbrev pub decreases-loop-out : goal.decreases-loop-out
-decreases-loop-out l = (length l.left - l.l) + (length l.right - l.r)
+decreases-loop-out l = (length l.left.bytes.now - l.l) + (length l.right.bytes.now - l.r)

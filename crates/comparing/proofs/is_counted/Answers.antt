@@ -10,7 +10,7 @@ pub returns-then-agree-differ : goal.returns-then-agree-differ
 unfolding is_within
 returns-then-agree-differ c =
     let a = c.args in
-    sym (lt-leb (a.agree + a.differ + 1 + a.left + a.right) greatest (omega (arith, c.if-agree-differ.true)))
+    sym (lt-leb (a.counts.agree + a.counts.differ + 1 + a.left + a.right) greatest (omega (arith, c.if-agree-differ.true)))
 
 pub returns : goal.returns
 returns c =

@@ -8,7 +8,7 @@ use Rattle.stream.proofs.Loop.{unread_is}
 use Rattle.listing.specs.Numbering.{past, room_for}
 use Rattle.listing.specs.Fill.{Turns}
 use Rattle.listing.proofs.Numberings.{room_past}
-use Rattle.listing.proofs.Filled.{begin, is_span_lem, now_is, reaches, full, out_size', takes, less, again, more, filled_list}
+use Rattle.listing.proofs.Filled.{begin, is_span_lem, now_is, reaches, full, out_size', takes, less, again, more}
 use Rattle.listing.proofs.fill.Goals as goal
 
 pub overflow_sub-held : goal.overflow_sub-held
@@ -97,8 +97,7 @@ returns-then-asks_for_more c =
     one.ensures in
     let numbered : (c.moved_on-number.result ≡ past c.args.numbering c.loop-out.invariant.given) = c.moved_on-number.ensures ∙ now_is c.loop-out.invariant in
     let enough : (let s = c.loop-out in room_for c.args.numbering ≤ length s.out - s.at) = omega (arith, c.loop-out-test.true, c.room_for-room.ensures) in
-    filled_list c.requires.0 c.requires.1
-    (more c.loop-out.invariant numbered enough turn (sym c.asks_for_more.ensures ∙ c.if-asks_for_more.true))
+    more c.loop-out.invariant numbered enough turn (sym c.asks_for_more.ensures ∙ c.if-asks_for_more.true)
 
 pub loop-out-smaller : goal.loop-out-smaller
 loop-out-smaller c =
@@ -148,5 +147,4 @@ shape_of-out c =
 
 pub returns : goal.returns
 returns c =
-    filled_list c.requires.0 c.requires.1
-    (full c.loop-out.invariant (c.moved_on.ensures ∙ now_is c.loop-out.invariant) (omega (arith, c.loop-out-test.false, c.room_for-room.ensures)))
+    full c.loop-out.invariant (c.moved_on.ensures ∙ now_is c.loop-out.invariant) (omega (arith, c.loop-out-test.false, c.room_for-room.ensures))

@@ -1,9 +1,9 @@
--- Each item begins inside the items or at their end, and behind the one before it.
-use Rattle.std.proofs.Common.{◌≤◌, ◌-◌, length}
+-- Each item leaves a byte less.
+use Rattle.std.proofs.Common.{length}
 use Rattle.log_cuts.proofs.items.Given as goal
 
-abbrev pub invariant-loop-from : goal.invariant-loop-from
-invariant-loop-from l = l.from ≤ length l.all
+abbrev pub invariant-loop-size : goal.invariant-loop-size
+invariant-loop-size g l = Unit {0}
 
-abbrev pub decreases-loop-from : goal.decreases-loop-from
-decreases-loop-from l = length l.all - l.from
+abbrev pub decreases-loop-size : goal.decreases-loop-size
+decreases-loop-size g l = length l.rest

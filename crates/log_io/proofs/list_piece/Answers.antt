@@ -1,4 +1,3 @@
--- `log_io::list_piece` meets its contract. Assumes nothing.
 use Rattle.log_io.proofs.Pieces.{all_read}
 use Rattle.log_io.proofs.list_piece.Goals as goal
 

@@ -1,6 +1,5 @@
--- `log_io::list_reads` meets its contract. Assumes nothing.
 use Rattle.log_io.proofs.Pieces.{fresh}
 use Rattle.log_io.proofs.list_reads.Goals as goal
 
-pub loop-turns-init : goal.loop-turns-init
-loop-turns-init c = record { stands = rw c.reset-reader.ensures (fresh c.args.places.now c.requires.0); room = c.requires.1 }
+pub loop-init : goal.loop-init
+loop-init c = record { stands = rw c.reset-reader.ensures (fresh c.args.places.now c.requires.0); room = c.requires.1 }

@@ -1,4 +1,3 @@
--- `log_io::write_last` is safe and ends. Assumes nothing.
 use Rattle.std.proofs.Common.{arith, length-take}
 use Rattle.log_lines.specs.Text.{ending_line}
 use Rattle.log_lines.proofs.Laws.{front_fits}

@@ -1,4 +1,3 @@
--- `log_writer::put_start` meets its contract. Assumes nothing.
 use Rattle.log_writer.proofs.Writes.{start_written}
 use Rattle.log_writer.proofs.put_start.Goals as goal
 

@@ -5,7 +5,7 @@ use Prim.Native.Nat.{ℕ, ◌+◌, ◌≤◌}
 use borrow.Author.Tests.{leb-true}
 use lib.Dec.{leb}
 use lib.ListN.{length}
-use Rattle.base.specs.Parts.{placed}
+use Rattle.base.specs.Parts.{pasted, placed}
 use Rattle.base.proofs.Parts.{placed_fits}
 use Rattle.numbers.specs.Width.{width_of}
 use Rattle.numbers.specs.BigEndian.{bytes_of}
@@ -23,6 +23,7 @@ returns-then-fits c =
     let a = c.args in
     let n : ℕ = a.n in
     c.write.ensures
+    ∙ ap (λ (x : ℕ). pasted a.out.now a.at (bytes_of c.width_of-whole.result x)) c.from.ensures
     ∙ sym (placed_fits a.out.now a.at (bytes_of c.width_of-whole.result n) (rw length_bytes_of room))
     ∙ ap (λ (w : ℕ). placed a.out.now a.at (bytes_of w n)) c.width_of-whole.ensures
 

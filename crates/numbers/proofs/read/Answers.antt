@@ -1,54 +1,32 @@
-use Prim.Native.Nat.{◌+◌, ◌^◌, ◌≤◌, ◌<◌}
-use mathlib.Core.Path.{◌≡◌, refl}
-use native.Mathlib.Nat.{lt_of_lt_of_le, pow-le-pow_right}
-use lib.Dec.{lit<}
+use Prim.Native.Nat.{◌^◌, ◌<◌}
+use mathlib.Core.Path.{ap, ◌∙◌, refl}
 use native.Mathlib.Omega.{arith}
-use Rattle.base.specs.Bytes.{Bytes}
+use lib.Seq.{take_all}
 use Rattle.numbers.specs.BigEndian.{be_of}
-use Rattle.numbers.proofs.BigEndian.{be_of_snoc}
-use Rattle.base.proofs.Parts.{part_snoc}
-use Rattle.numbers.proofs.BigEndian.{be_of_part_lt}
+use Rattle.numbers.proofs.BigEndian.{be_of_front_lt, be_of_more}
 use Rattle.numbers.proofs.read.Goals as goal
 
-pub loop-i-init : goal.loop-i-init
+pub loop-byte-init : goal.loop-byte-init
 unfolding be_of
-loop-i-init c =
-    (omega arith, refl)
+loop-byte-init c = refl
 
 pub overflow_mul-n : goal.overflow_mul-n
 overflow_mul-n c =
-    let room : c.loop-i.n < 256 ^ 7 = let l = c.loop-i in
-    let bytes : Bytes c.args.s.now = λ i. (c.shared_slice_known-1.given i).fits in
-    let here = be_of_part_lt c.args.s.now c.args.at l.i bytes in
-    let most : l.i ≤ 7 = omega arith in
-    rw l.invariant.1 (lt_of_lt_of_le here (pow-le-pow_right (lit< tt) most)) in
+    let l = c.loop-byte in
+    let room : l.n < 256 ^ 7 = rw l.invariant (be_of_front_lt c.args.bytes.now l.byte-index 7 (λ i. (c.type_inv.bytes i).fits) (omega arith)) in
     record { fits = omega (arith, room) }
 
 pub overflow_add-n : goal.overflow_add-n
 overflow_add-n c =
-    let room : c.loop-i.n < 256 ^ 7 = let l = c.loop-i in
-    let bytes : Bytes c.args.s.now = λ i. (c.shared_slice_known-1.given i).fits in
-    let here = be_of_part_lt c.args.s.now c.args.at l.i bytes in
-    let most : l.i ≤ 7 = omega arith in
-    rw l.invariant.1 (lt_of_lt_of_le here (pow-le-pow_right (lit< tt) most)) in
-    record {
-      fits = omega (
-        arith,
-        room,
-        c.wide.ensures,
-        c.shared_slice_known-in-loop-i-1.given (c.args.at + c.loop-i.i),
-      );
-    }
+    let l = c.loop-byte in
+    let room : l.n < 256 ^ 7 = rw l.invariant (be_of_front_lt c.args.bytes.now l.byte-index 7 (λ i. (c.type_inv.bytes i).fits) (omega arith)) in
+    record { fits = omega (arith, room, c.from.ensures, c.type_inv.bytes l.byte-index) }
 
-pub loop-i-preserved : goal.loop-i-preserved
-loop-i-preserved c =
-    let start = c.args in
-    let l = c.loop-i in (
-      omega arith,
-      rw (part_snoc start.s.now start.at l.i (omega arith), be_of_snoc, ← l.invariant.1, c.wide.ensures),
-    )
+pub loop-byte-preserved : goal.loop-byte-preserved
+loop-byte-preserved c =
+    let l = c.loop-byte in
+    rw (be_of_more c.args.bytes.now l.byte-index c.loop-byte-test.true, ← l.invariant, c.from.ensures)
 
 pub returns : goal.returns
 returns c =
-    let all : c.loop-i.i ≡ c.args.width = omega arith in
-    rw (← all) c.loop-i.invariant.1
+    c.loop-byte.invariant ∙ ap be_of (take_all c.loop-byte.byte-index c.args.bytes.now (omega arith))

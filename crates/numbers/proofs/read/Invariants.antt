@@ -1,12 +1,8 @@
--- `numbers::read` meets its contract. The loop's invariant: n is the number of the bytes passed. The measure is what is left of the width. Assumes nothing.
-use Prim.Native.Nat.{◌-◌, ◌≤◌}
+-- `numbers::read` meets its contract. The loop's invariant: n is the number of the bytes passed. Assumes nothing.
 use mathlib.Core.Path.{◌≡◌}
+use lib.ListN.{take}
 use Rattle.numbers.specs.BigEndian.{be_of}
-use Rattle.base.specs.Parts.{part}
 use Rattle.numbers.proofs.read.Given as goal
 
-abbrev pub invariant-loop-i : goal.invariant-loop-i
-invariant-loop-i l = (l.i ≤ l.width) × (l.n ≡ be_of (part l.s l.at l.i))
-
-abbrev pub decreases-loop-i : goal.decreases-loop-i
-decreases-loop-i l = l.width - l.i
+abbrev pub invariant-loop-byte : goal.invariant-loop-byte
+invariant-loop-byte l = l.n ≡ be_of (take l.byte-index l.bytes)

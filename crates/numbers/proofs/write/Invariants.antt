@@ -6,8 +6,5 @@ use Rattle.numbers.specs.BigEndian.{bytes_of}
 use Rattle.base.specs.Parts.{pasted}
 use Rattle.numbers.proofs.write.Given as goal
 
-abbrev pub invariant-loop-left : goal.invariant-loop-left
-invariant-loop-left l = (l.left ≤ l.width) × (l.rest ≡ l.n / 256 ^ (l.width - l.left)) × (l.out ≡ pasted l.initial.out (l.at + l.left) (bytes_of (l.width - l.left) l.n)) × (length l.out ≡ length l.initial.out)
-
-abbrev pub decreases-loop-left : goal.decreases-loop-left
-decreases-loop-left l = l.left
+abbrev pub invariant-loop-i : goal.invariant-loop-i
+invariant-loop-i l = (l.i ≤ l.width) × (l.rest ≡ l.n / 256 ^ (l.width - l.i)) × (l.out ≡ pasted l.initial.out (l.at + l.i) (bytes_of (l.width - l.i) l.n)) × (length l.out ≡ length l.initial.out)

@@ -1,34 +1,20 @@
--- `valid::is_valid` meets its contract: each return by a law of Decisions. Assumes nothing.
-use mathlib.Core.Path.{sym, ap, ◌∙◌}
-use Prim.Native.Nat.{ℕ, ◌+◌}
-use borrow.Author.Tests.{not-true, not-false}
-use native.Mathlib.Omega.{arith}
+use mathlib.Core.Path.{sym, ◌∙◌}
 use Rattle.valid.proofs.Decisions.{too_short_lem, too_long, unlisted, other_size, by_sum}
-use mathlib.Core.Bool.{not}
 use Rattle.valid.proofs.is_valid.Goals as goal
+use Rattle.valid.proofs.is_valid.Goals.{then-n-lt4-via-then-n-lt4 as short, then-n-lt4-via-else-n-lt4+then-limit-n as long, then-n-lt4-via-else-n-lt4+else-limit-n+then-not-is_address as address, then-n-lt4-via-else-n-lt4+else-limit-n+else-not-is_address+then-from-n as length}
 
 pub returns-then-n-lt4 : goal.returns-then-n-lt4
 returns-then-n-lt4 c =
-    let a = c.args in too_short_lem a.limit a.bytes.now c.if-n-lt4.true
-
-pub returns-then-limit-n : goal.returns-then-limit-n
-returns-then-limit-n c =
-    let a = c.args in too_long a.limit a.bytes.now c.if-limit-n.true
-
-pub returns-then-not-is_address : goal.returns-then-not-is_address
-returns-then-not-is_address c =
-    let a = c.args in
-    unlisted a.limit a.bytes.now (sym c.is_address.ensures ∙ not-true _ (ap not c.if-not-is_address.true))
-
-pub returns-then-wide-n : goal.returns-then-wide-n
-returns-then-wide-n c =
-    let a = c.args in
-    other_size a.limit a.bytes.now (λ e. c.if-wide-n.true (ap (λ (x : ℕ). x + 2) c.wide.ensures.0 ∙ e))
+    let m = c.args.limit in
+    let b = c.args.bytes.now in
+    elim c.then-n-lt4.branch [
+      | short w ↦ too_short_lem m b w.if-n-lt4.true
+      | long w ↦ too_long m b w.if-limit-n.true
+      | address w ↦ unlisted m b (sym w.is_address.ensures ∙ w.if-not-is_address.true)
+      | length w ↦ other_size m b (λ e. w.if-from-n.true (cc))
+    ]
 
 pub returns : goal.returns
 returns c =
-    let a = c.args in
-    rw c.is_right.ensures
-    (by_sum a.limit a.bytes.now (omega (arith, c.if-n-lt4.false)) (omega (arith, c.if-limit-n.false))
-    (sym c.is_address.ensures ∙ not-false _ (ap not c.if-not-is_address.false))
-    (ap (λ (x : ℕ). x + 2) (sym c.wide.ensures.0) ∙ c.if-wide-n.false) c.checked.ensures)
+    rw c.is_ok.ensures.value (by_sum c.args.limit c.args.bytes.now c.if-n-lt4.false c.if-limit-n.false
+    (sym c.is_address.ensures ∙ c.if-not-is_address.false) (cc) c.checked.ensures)

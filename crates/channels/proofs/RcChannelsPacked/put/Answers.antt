@@ -1,15 +1,14 @@
 -- `channels::RcChannelsPacked::put` meets its contract.
 -- Assumes nothing.
-use mathlib.Core.Path.{◌≡◌, sym, subst}
+use mathlib.Core.Path.{◌≡◌, sym}
 use mathlib.Core.List.{List}
-use Prim.Native.Nat.{ℕ, ◌≤◌}
+use Prim.Native.Nat.{ℕ}
 use native.Mathlib.Omega.{arith}
 use lib.ListN.{length}
 use Rattle.base.proofs.Parts.{placed_fits, placed_short}
-use Rattle.channels.specs.Digits.{number, Below}
+use Rattle.channels.specs.Digits.{number}
 use Rattle.channels.specs.Channels.{channels_size, channel_bytes, low_bits}
 use Rattle.channels.proofs.Digits.{length_digits}
-use Rattle.channels.proofs.Laws.{low_below}
 use Rattle.channels.proofs.RcChannelsPacked.put.Goals as goal
 
 all : (channels : List ℕ) → length (channel_bytes channels) ≡ channels_size
@@ -21,15 +20,9 @@ returns-then-room-lt-MIN_PAYLOAD_SIZE c =
     let s = channel_bytes (low_bits a.self.0) in
     sym (placed_short a.buffer.now s (omega (arith, c.if-room-lt-MIN_PAYLOAD_SIZE.true, all (low_bits a.self.0))))
 
-pub put_all-requires : goal.put_all-requires
-put_all-requires c =
-    let in_range : Below 11 c.low_bits-low.result = subst (Below 11) (sym c.low_bits-low.ensures) (low_below c.args.self.0) in
-    record { channels_size_in_bounds = omega arith; below = in_range }
-
 pub returns : goal.returns
 returns c =
     let a = c.args in
     let d : List ℕ = a.buffer.now in
     let s : List ℕ = channel_bytes (low_bits a.self.0) in
-    let room : channels_size ≤ length d = c.if-room-lt-MIN_PAYLOAD_SIZE.false in
-    rw (c.put_all.ensures, c.low_bits-low.ensures) (sym (placed_fits d 0 s (omega (arith, all (low_bits a.self.0)))))
+    rw (c.put.ensures, c.low_bits.ensures) (sym (placed_fits d 0 s (omega (arith, c.if-room-lt-MIN_PAYLOAD_SIZE.false, all (low_bits a.self.0)))))

@@ -18,7 +18,7 @@ overflow_sub-end c =
     Puts first.new.out first.result differ_word c.put_text-third.new.out c.put_text-third.result) = puts_within 7
     (omega (arith, c.requires, word.next, c.put_text-first.auto.out, c.put_position-second.ensures.1, c.put_position-second.auto.out))
     c.put_text-third.ensures in
-    let number_2 : (let n = c.args.differ in
+    let number_2 : (let n = c.args.counts.differ in
     Puts c.put_text-third.new.out c.put_text-third.result (leading n) c.put_position-end.new.out c.put_position-end.result) = puts_within longest_position
     (omega (
       arith,
@@ -31,7 +31,7 @@ overflow_sub-end c =
       c.put_text-third.auto.out,
     ))
     c.put_position-end.ensures.0 in
-    let some : 1 ≤ c.put_position-end.result = let n = c.args.differ in
+    let some : 1 ≤ c.put_position-end.result = let n = c.args.counts.differ in
     omega (arith, number_2.next, length_leading n) in
     some
 
@@ -39,13 +39,13 @@ pub returns : goal.returns
 unfolding last_line
 returns c =
     let word : (Puts c.args.out.now c.args.at agree_word c.put_text-first.new.out c.put_text-first.result) = puts_within 6 (omega (arith, c.requires)) c.put_text-first.ensures in
-    let number : (let n = c.args.agree in
+    let number : (let n = c.args.counts.agree in
     Puts c.put_text-first.new.out c.put_text-first.result (leading n) c.put_position-second.new.out c.put_position-second.result) = puts_within longest_position (omega (arith, c.requires, word.next, c.put_text-first.auto.out)) c.put_position-second.ensures.0 in
     let word_2 : (let first = c.put_position-second in
     Puts first.new.out first.result differ_word c.put_text-third.new.out c.put_text-third.result) = puts_within 7
     (omega (arith, c.requires, word.next, c.put_text-first.auto.out, c.put_position-second.ensures.1, c.put_position-second.auto.out))
     c.put_text-third.ensures in
-    let number_2 : (let n = c.args.differ in
+    let number_2 : (let n = c.args.counts.differ in
     Puts c.put_text-third.new.out c.put_text-third.result (leading n) c.put_position-end.new.out c.put_position-end.result) = puts_within longest_position
     (omega (
       arith,
@@ -58,10 +58,10 @@ returns c =
       c.put_text-third.auto.out,
     ))
     c.put_position-end.ensures.0 in
-    let some : 1 ≤ c.put_position-end.result = let n = c.args.differ in
+    let some : 1 ≤ c.put_position-end.result = let n = c.args.counts.differ in
     omega (arith, number_2.next, length_leading n) in
-    let n = c.args.agree in
-    let d = c.args.differ in
+    let n = c.args.counts.agree in
+    let d = c.args.counts.differ in
     let p = word in
     let q = number in
     let s = word_2 in

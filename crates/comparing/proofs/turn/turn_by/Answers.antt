@@ -10,49 +10,49 @@ use Rattle.comparing.proofs.turn.turn_by.Goals as goal
 
 pub returns-then-is_hungry : goal.returns-then-is_hungry
 returns-then-is_hungry c =
-    let left : (let a = c.args in c.is_hungry.result ≡ hungry a.left_ends (first limit a.left.now)) = c.is_hungry.ensures ∙ ap (λ (t : Bool). t && not c.args.left_ends) c.requires.0.0.asks in
+    let left : (let a = c.args in c.is_hungry.result ≡ hungry a.left.ends (first limit a.left.bytes.now)) = c.is_hungry.ensures ∙ ap (λ (t : Bool). t && not c.args.left.ends) c.requires.0.0.asks in
     let a = c.args in
-    turns_as (turn_left a.agree a.differ a.left_ends a.right_ends a.left.now a.right.now (sym left ∙ c.if-is_hungry.true))
-    (stayed a.agree a.differ Left a.out.now a.at c.stay.ensures)
+    turns_as (turn_left a.counts.agree a.counts.differ a.left.ends a.right.ends a.left.bytes.now a.right.bytes.now (sym left ∙ c.if-is_hungry.true))
+    (stayed a.counts.agree a.counts.differ Left a.out.now a.at c.stay.ensures)
 
 pub returns-then-is_hungry-2 : goal.returns-then-is_hungry-2
 returns-then-is_hungry-2 c =
-    let left : (let a = c.args in c.is_hungry.result ≡ hungry a.left_ends (first limit a.left.now)) = c.is_hungry.ensures ∙ ap (λ (t : Bool). t && not c.args.left_ends) c.requires.0.0.asks in
-    let right : (let a = c.args in c.is_hungry-2.result ≡ hungry a.right_ends (first limit a.right.now)) = c.is_hungry-2.ensures ∙ ap (λ (t : Bool). t && not c.args.right_ends) c.requires.0.1.asks in
+    let left : (let a = c.args in c.is_hungry.result ≡ hungry a.left.ends (first limit a.left.bytes.now)) = c.is_hungry.ensures ∙ ap (λ (t : Bool). t && not c.args.left.ends) c.requires.0.0.asks in
+    let right : (let a = c.args in c.is_hungry-2.result ≡ hungry a.right.ends (first limit a.right.bytes.now)) = c.is_hungry-2.ensures ∙ ap (λ (t : Bool). t && not c.args.right.ends) c.requires.0.1.asks in
     let a = c.args in
     turns_as
-    (turn_right a.agree a.differ a.left_ends a.right_ends a.left.now a.right.now (sym left ∙ c.if-is_hungry.false)
+    (turn_right a.counts.agree a.counts.differ a.left.ends a.right.ends a.left.bytes.now a.right.bytes.now (sym left ∙ c.if-is_hungry.false)
     (sym right ∙ c.if-is_hungry-2.true))
-    (stayed a.agree a.differ Right a.out.now a.at c.stay-then-is_hungry-2.ensures)
+    (stayed a.counts.agree a.counts.differ Right a.out.now a.at c.stay-then-is_hungry-2.ensures)
 
 pub close-requires : goal.close-requires
 close-requires c =
     let both : (let a = c.args in
-    c.are_done.result ≡ (stops (first limit a.left.now) && stops (first limit a.right.now))) = c.are_done.ensures ∙ ap₂ ◌&&◌ c.requires.0.0.asks c.requires.0.1.asks in
+    c.are_done.result ≡ (stops (first limit a.left.bytes.now) && stops (first limit a.right.bytes.now))) = c.are_done.ensures ∙ ap₂ ◌&&◌ c.requires.0.0.asks c.requires.0.1.asks in
     let a = c.args in
-    let stop = (and-eq-true_iff (stops (first limit a.left.now)) (stops (first limit a.right.now))).0 (sym both ∙ c.if-are_done.true) in
-    ((short_side a.left.now stop.0, short_side a.right.now stop.1), c.requires.1)
+    let stop = (and-eq-true_iff (stops (first limit a.left.bytes.now)) (stops (first limit a.right.bytes.now))).0 (sym both ∙ c.if-are_done.true) in
+    ((short_side a.left.bytes.now stop.0, short_side a.right.bytes.now stop.1), c.requires.1)
 
 pub returns-then-are_done : goal.returns-then-are_done
 returns-then-are_done c =
-    let left : (let a = c.args in c.is_hungry.result ≡ hungry a.left_ends (first limit a.left.now)) = c.is_hungry.ensures ∙ ap (λ (t : Bool). t && not c.args.left_ends) c.requires.0.0.asks in
-    let right : (let a = c.args in c.is_hungry-2.result ≡ hungry a.right_ends (first limit a.right.now)) = c.is_hungry-2.ensures ∙ ap (λ (t : Bool). t && not c.args.right_ends) c.requires.0.1.asks in
+    let left : (let a = c.args in c.is_hungry.result ≡ hungry a.left.ends (first limit a.left.bytes.now)) = c.is_hungry.ensures ∙ ap (λ (t : Bool). t && not c.args.left.ends) c.requires.0.0.asks in
+    let right : (let a = c.args in c.is_hungry-2.result ≡ hungry a.right.ends (first limit a.right.bytes.now)) = c.is_hungry-2.ensures ∙ ap (λ (t : Bool). t && not c.args.right.ends) c.requires.0.1.asks in
     let both : (let a = c.args in
-    c.are_done.result ≡ (stops (first limit a.left.now) && stops (first limit a.right.now))) = c.are_done.ensures ∙ ap₂ ◌&&◌ c.requires.0.0.asks c.requires.0.1.asks in
+    c.are_done.result ≡ (stops (first limit a.left.bytes.now) && stops (first limit a.right.bytes.now))) = c.are_done.ensures ∙ ap₂ ◌&&◌ c.requires.0.0.asks c.requires.0.1.asks in
     let a = c.args in
     turns_as
-    (turn_closes a.agree a.differ a.left_ends a.right_ends a.left.now a.right.now (sym left ∙ c.if-is_hungry.false)
+    (turn_closes a.counts.agree a.counts.differ a.left.ends a.right.ends a.left.bytes.now a.right.bytes.now (sym left ∙ c.if-is_hungry.false)
     (sym right ∙ c.if-is_hungry-2.false) (sym both ∙ c.if-are_done.true))
     c.close.ensures
 
 pub returns : goal.returns
 returns c =
-    let left : (let a = c.args in c.is_hungry.result ≡ hungry a.left_ends (first limit a.left.now)) = c.is_hungry.ensures ∙ ap (λ (t : Bool). t && not c.args.left_ends) c.requires.0.0.asks in
-    let right : (let a = c.args in c.is_hungry-2.result ≡ hungry a.right_ends (first limit a.right.now)) = c.is_hungry-2.ensures ∙ ap (λ (t : Bool). t && not c.args.right_ends) c.requires.0.1.asks in
+    let left : (let a = c.args in c.is_hungry.result ≡ hungry a.left.ends (first limit a.left.bytes.now)) = c.is_hungry.ensures ∙ ap (λ (t : Bool). t && not c.args.left.ends) c.requires.0.0.asks in
+    let right : (let a = c.args in c.is_hungry-2.result ≡ hungry a.right.ends (first limit a.right.bytes.now)) = c.is_hungry-2.ensures ∙ ap (λ (t : Bool). t && not c.args.right.ends) c.requires.0.1.asks in
     let both : (let a = c.args in
-    c.are_done.result ≡ (stops (first limit a.left.now) && stops (first limit a.right.now))) = c.are_done.ensures ∙ ap₂ ◌&&◌ c.requires.0.0.asks c.requires.0.1.asks in
+    c.are_done.result ≡ (stops (first limit a.left.bytes.now) && stops (first limit a.right.bytes.now))) = c.are_done.ensures ∙ ap₂ ◌&&◌ c.requires.0.0.asks c.requires.0.1.asks in
     let a = c.args in
     turns_as
-    (turn_settles a.agree a.differ a.left_ends a.right_ends a.left.now a.right.now (sym left ∙ c.if-is_hungry.false)
+    (turn_settles a.counts.agree a.counts.differ a.left.ends a.right.ends a.left.bytes.now a.right.bytes.now (sym left ∙ c.if-is_hungry.false)
     (sym right ∙ c.if-is_hungry-2.false) (sym both ∙ c.if-are_done.false))
     c.settle.ensures

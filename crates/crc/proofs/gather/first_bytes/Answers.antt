@@ -26,7 +26,7 @@ pub loop-i-preserved : goal.loop-i-preserved
 loop-i-preserved c =
     let s = c.args.s.now in
     let i = c.loop-i.i in
-    let byte : c.wide.result ≡ get_or s i 0 = c.wide.ensures.0 in
+    let byte : c.from.result ≡ get_or s i 0 = c.from.ensures in
     (omega arith, omega (arith, c.loop-i.invariant.1, first_more s i (omega arith)))
 
 pub returns : goal.returns

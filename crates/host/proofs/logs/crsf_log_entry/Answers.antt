@@ -6,4 +6,4 @@ use Rattle.host.proofs.logs.crsf_log_entry.Goals as goal
 
 pub returns : goal.returns
 returns c =
-    answered c.put_entry.ensures (entry_fits c.args.seconds _ _ (search rules)) c.answer_written.ensures
+    answered c.put_entry.ensures (entry_fits c.args.seconds _ _ (search rules)) c.answer_result.ensures.written

@@ -5,4 +5,4 @@ use Rattle.host.proofs.logs.crsf_log_start.Goals as goal
 
 pub returns : goal.returns
 returns c =
-    answered c.put_start.ensures (start_fits _) c.answer_written.ensures
+    answered c.put_start.ensures (start_fits _) c.answer_result.ensures.written

@@ -9,6 +9,6 @@ use Rattle.host.proofs.state.crsf_held.Goals as goal
 
 pub returns : goal.returns
 returns c =
-    c.answer_restored.ensures
+    c.answer_result.ensures.restored
     ∙ ap (λ (row : List ℕ). packed (in_bytes (answer_row row))) c.held.ensures
     ∙ ap packed (in_bytes_lem _ (held_fits _))

@@ -5,4 +5,4 @@ use Rattle.host.proofs.state.crsf_position.Goals as goal
 
 pub returns : goal.returns
 returns c =
-    answered c.position.ensures (position_fits _ _) c.answer_written.ensures
+    answered c.position.ensures (position_fits _ _) c.answer_result.ensures.written

@@ -5,4 +5,4 @@ use Rattle.host.proofs.state.crsf_reset.Goals as goal
 
 pub returns : goal.returns
 returns c =
-    answered c.reset.ensures (reset_fits _) c.answer_restored.ensures
+    answered c.reset.ensures (reset_fits _) c.answer_result.ensures.restored

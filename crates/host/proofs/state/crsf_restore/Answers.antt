@@ -5,4 +5,4 @@ use Rattle.host.proofs.state.crsf_restore.Goals as goal
 
 pub returns : goal.returns
 returns c =
-    answered c.restore.ensures (restore_fits _ _) c.answer_restored.ensures
+    answered c.restore.ensures (restore_fits _ _) c.answer_result.ensures.restored

@@ -5,4 +5,4 @@ use Rattle.host.proofs.state.crsf_save.Goals as goal
 
 pub returns : goal.returns
 returns c =
-    answered c.save.ensures (save_fits _ _) c.answer_written.ensures
+    answered c.save.ensures (save_fits _ _) c.answer_result.ensures.written

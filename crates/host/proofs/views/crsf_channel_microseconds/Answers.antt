@@ -2,17 +2,11 @@
 use Rattle.host.proofs.Shown.{bits_there, bits_given, bits_refused}
 use Rattle.host.proofs.views.crsf_channel_microseconds.Goals as goal
 
-pub float_to_bits-bits : goal.float_to_bits-bits
-float_to_bits-bits c =
-    let a = c.args in
-    bits_there a.raw a.out.now c.to_microseconds-microseconds.ensures c.in-Exact.is
+pub float_to_bits-us : goal.float_to_bits-us
+float_to_bits-us c = let a = c.args in bits_there a.raw a.out.now c.to_microseconds.ensures c.in-Ok.is
 
-pub returns-in-Exact : goal.returns-in-Exact
-returns-in-Exact c =
-    let a = c.args in
-    bits_given a.raw a.out.now c.to_microseconds-microseconds.ensures c.in-Exact.is c.give_one.ensures
+pub returns-in-Ok : goal.returns-in-Ok
+returns-in-Ok c = let a = c.args in bits_given a.raw a.out.now c.to_microseconds.ensures c.in-Ok.is c.give_one.ensures
 
-pub returns-in-Refused : goal.returns-in-Refused
-returns-in-Refused c =
-    let a = c.args in
-    bits_refused a.raw a.out.now c.to_microseconds-microseconds.ensures c.in-Refused.refusal c.in-Refused.is c.refuse.ensures
+pub returns-in-Err : goal.returns-in-Err
+returns-in-Err c = let a = c.args in bits_refused a.raw a.out.now c.to_microseconds.ensures _ c.in-Err.is c.refuse.ensures

@@ -1,6 +1,6 @@
 -- `host::write::crsf_write_battery` meets its contract. Assumes nothing.
 use Rattle.records.specs.declared.battery.Battery.{Battery}
-use Rattle.frames.proofs.Fits.{battery_small}
+use Rattle.records.specs.Small.{battery_small}
 use Rattle.host.proofs.Written.{frame_answered}
 use mir.Syntax.{w16}
 use mir.Val.{to_z, of_z}
@@ -14,4 +14,4 @@ returns c =
     let packet : Battery =
     record { voltage = to_z w16 (of_z w16 a.voltage); current = to_z w16 (of_z w16 a.current); capacity_used = a.capacity_used; remaining = a.remaining; id = a.id } in
     simp (to_z-of_z w16 _ fits.voltage, to_z-of_z w16 _ fits.current)
-    at (frame_answered _ _ _ _ c.write_battery.ensures (battery_small packet) c.answer_written.ensures)
+    at (frame_answered _ _ _ _ c.write_packet_to_buffer.ensures (battery_small packet) c.answer_result.ensures.written)

@@ -1,5 +1,5 @@
 -- `host::write::crsf_write_gps` meets its contract. Assumes nothing.
-use Rattle.frames.proofs.Fits.{gps_small}
+use Rattle.positions.specs.Small.{gps_small}
 use Rattle.host.proofs.Written.{frame_answered}
 use mir.Syntax.{w32}
 use mir.ValLaws.{to_z-of_z}
@@ -9,4 +9,4 @@ pub returns : goal.returns
 returns c =
     let fits = c.ranges in
     simp (to_z-of_z w32 _ fits.latitude, to_z-of_z w32 _ fits.longitude)
-    at (frame_answered _ _ _ _ c.write_gps.ensures (gps_small _) c.answer_written.ensures)
+    at (frame_answered _ _ _ _ c.write_packet_to_buffer.ensures (gps_small _) c.answer_result.ensures.written)

@@ -1,5 +1,5 @@
 -- `host::write::crsf_write_gps_extended` meets its contract. Assumes nothing.
-use Rattle.frames.proofs.Fits.{gps_extended_small}
+use Rattle.positions.specs.Small.{gps_extended_small}
 use Rattle.host.proofs.Written.{frame_answered}
 use mir.Syntax.{w16}
 use mir.ValLaws.{to_z-of_z}
@@ -18,4 +18,4 @@ returns c =
       to_z-of_z w16 _ fits.h_acc,
       to_z-of_z w16 _ fits.v_acc,
     )
-    at (frame_answered _ _ _ _ c.write_gps_extended.ensures (gps_extended_small _) c.answer_written.ensures)
+    at (frame_answered _ _ _ _ c.write_packet_to_buffer.ensures (gps_extended_small _) c.answer_result.ensures.written)

@@ -7,4 +7,4 @@ pub returns : goal.returns
 returns c =
     let a = c.args in
     answered c.write_rc_channels_burst_values.ensures (write_fits _ a.buffer.now (burst_short a.dest a.channels.now a.count))
-    c.answer_written.ensures
+    c.answer_result.ensures.written

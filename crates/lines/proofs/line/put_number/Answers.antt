@@ -1,29 +1,24 @@
 -- `lines::line::put_number` meets its contract: the room is tested first, and the digits are few. Assumes nothing.
 use mathlib.Core.Path.{sym, ◌∙◌}
-use Prim.Native.Nat.{◌+◌, ◌≤◌}
+use Prim.Native.Nat.{◌+◌}
 use native.Mathlib.Omega.{arith}
 use borrow.Author.Tests.{leb-true}
 use lib.ListN.{length}
-use Rattle.lines.specs.Lines.{leading, longest_number}
-use Rattle.lines.proofs.Puts.{within_put, within_none}
+use Rattle.lines.specs.Lines.{longest_number}
+use Rattle.lines.proofs.Puts.{within_put}
 use Rattle.lines.proofs.Digits.{ten_at_most, length_leading}
 use Rattle.lines.proofs.line.put_number.Goals as goal
 
 pub put_leading-requires : goal.put_leading-requires
 put_leading-requires c =
-    let room : let a = c.args in a.at + longest_number ≤ length a.out.now = let a = c.args in
-    leb-true (a.at + longest_number) (length a.out.now) (sym c.fits.ensures ∙ c.if-fits.true) in
-    let few : length (leading c.args.n) ≤ longest_number = omega (arith, ten_at_most c.args.n (omega (arith, c.ranges.n)), length_leading c.args.n) in
-    omega (arith, room, few)
+    let a = c.args in
+    let room = leb-true (a.at + longest_number) (length a.out.now) (sym c.fits.ensures ∙ c.if-fits.true) in
+    omega (arith, room, ten_at_most a.n (omega (arith, c.ranges.n)), length_leading a.n)
 
 pub returns-then-fits : goal.returns-then-fits
 returns-then-fits c =
-    let room : let a = c.args in a.at + longest_number ≤ length a.out.now = let a = c.args in
-    leb-true (a.at + longest_number) (length a.out.now) (sym c.fits.ensures ∙ c.if-fits.true) in
-    let few : length (leading c.args.n) ≤ longest_number = omega (arith, ten_at_most c.args.n (omega (arith, c.ranges.n)), length_leading c.args.n) in
-    (within_put longest_number room c.put_leading.ensures, omega (arith, c.put_leading.ensures.next, few))
-
-pub returns : goal.returns
-returns c =
     let a = c.args in
-    (within_none a.out.now a.at longest_number _ (sym c.fits.ensures ∙ c.if-fits.false), omega arith)
+    let room = leb-true (a.at + longest_number) (length a.out.now) (sym c.fits.ensures ∙ c.if-fits.true) in (
+      within_put longest_number room c.put_leading.ensures,
+      omega (arith, c.put_leading.ensures.next, ten_at_most a.n (omega (arith, c.ranges.n)), length_leading a.n),
+    )

@@ -1,6 +1,0 @@
--- Each turn leaves a place less.
-use Rattle.std.proofs.Common.{◌-◌}
-use Rattle.replay.proofs.fields.same_u16.Given as goal
-
-abbrev pub decreases-loop-i : goal.decreases-loop-i
-decreases-loop-i l = 30 - l.i
