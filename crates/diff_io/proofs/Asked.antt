@@ -31,16 +31,16 @@ right_by (Refused r) e = absurd (true≢false (sym e))
 -- the bytes that are left unread of an upload of which more is asked for, in its block
 module _ {left right : List ℕ} {lends rends : Bool} {n d room : ℕ} {c : Compared} (asks : Asks left right lends rends n d room c) {size from to : ℕ}
     (sound : Sound size from to) (there : limit ≤ size) where
-  pub short_left : length left ≡ to - from → c.left ≤ length left → c.wants ≡ Left → Short size (from + c.left) to
+  pub short_left : length left ≡ to - from → c.left ≤ length left → wants_left c.wants ≡ true → Short size (from + c.left) to
   short_left long inside e = record {
     sound = record { ordered = omega (arith, sound.ordered); inside = sound.inside };
-    few = omega (arith, (asks.more_left e).1, length-drop c.left left);
+    few = omega (arith, (asks.more_left (left_by c.wants e)).1, length-drop c.left left);
     room = there;
   }
 
-  pub short_right : length right ≡ to - from → c.right ≤ length right → c.wants ≡ Right → Short size (from + c.right) to
+  pub short_right : length right ≡ to - from → c.right ≤ length right → wants_right c.wants ≡ true → Short size (from + c.right) to
   short_right long inside e = record {
     sound = record { ordered = omega (arith, sound.ordered); inside = sound.inside };
-    few = omega (arith, (asks.more_right e).1, length-drop c.right right);
+    few = omega (arith, (asks.more_right (right_by c.wants e)).1, length-drop c.right right);
     room = there;
   }

@@ -1,23 +1,26 @@
 -- What the loop over two blocks keeps: the blocks are as long as they were, the unread bytes stand in them, and all that was compared and written so far
 -- is a run of crate comparing, whose uploads are what was read.
 -- Assumes nothing.
-use mathlib.Core.Path.{◌≡◌, refl, ap, ◌∙◌}
+use mathlib.Core.Path.{◌≡◌, refl, sym, ◌∙◌}
 use mathlib.Core.Bool.{Bool, false}
 use mathlib.Core.List.{List, []}
 use Prim.Native.Nat.{ℕ, ◌+◌, ◌-◌, ◌≤◌}
 use native.Mathlib.Omega.{arith}
 use lib.ListN.{length}
+use Rattle.std.proofs.lemmas.Option.{none-some}
+use Rattle.std.specs.Prelude.{None, Ok}
 use Rattle.base.specs.Parts.{part}
 use Rattle.base.proofs.Parts.{length_part}
 use Rattle.comparing.specs.Call.{is_whole, wants_left, wants_right, compared_of}
 use Rattle.comparing.specs.Run.{Upload, fresh, Run, begin}
 use Rattle.comparing.specs.declared.Compared.{Compared}
 use Rattle.comparing.specs.declared.Wants.{Wants}
+use Rattle.comparing.specs.declared.Wants.TheVariants.{Left, Right, Room, Nothing, Refused}
 use Rattle.comparing.proofs.Progress.{Asks}
-use Rattle.diff_io.specs.State.{Sound, Fills}
+use Rattle.diff_io.specs.State.{Sound, Feeds, found_by, ended_by}
 use Rattle.diff_io.specs.declared.Fed.{Fed}
 use Rattle.diff_io.proofs.Asked.{left_by, right_by}
-use Rattle.diff_io.proofs.Laws.{Holds, Feeds, call_on, left_on, right_on, fed_on}
+use Rattle.diff_io.proofs.Laws.{Holds, call_on, left_on, right_on, fed_on}
 
 pub record Kept (left₀ right₀ out₀ left right out : List ℕ) (l l-to : ℕ) (l-ends : Bool) (r r-to : ℕ) (r-ends : Bool) (agree differ : ℕ) : Type 0 where
   pub left_size : length left ≡ length left₀
@@ -47,6 +50,14 @@ begun left right out = record {
   right_holds = record { unread_is = refl; ends_is = refl };
 }
 
+-- one that goes on has no whole text
+not_whole : (w : Wants) (differ : ℕ) → ended_by w differ ≡ None → is_whole w ≡ false
+not_whole Left differ e = refl
+not_whole Right differ e = refl
+not_whole Room differ e = refl
+not_whole Nothing differ e = absurd (none-some (Ok (found_by differ)) (sym e))
+not_whole (Refused r) differ e = refl
+
 module _ {left₀ right₀ out₀ left right out : List ℕ} {l l-to : ℕ} {l-ends : Bool} {r r-to : ℕ} {r-ends : Bool} {n d : ℕ}
     (kept : Kept left₀ right₀ out₀ left right out l l-to l-ends r r-to r-ends n d) where
   -- how many bytes of each upload are unread
@@ -66,26 +77,25 @@ module _ {left₀ right₀ out₀ left right out : List ℕ} {l l-to : ℕ} {l-e
 module _ {left₀ right₀ out₀ left right out : List ℕ} {l l-to : ℕ} {l-ends : Bool} {r r-to : ℕ} {r-ends : Bool} {n d : ℕ}
     (kept : Kept left₀ right₀ out₀ left right out l l-to l-ends r r-to r-ends n d) {outAfter : List ℕ} {c : Compared}
     (is : (c, outAfter) ≡ compared_of (part left l (l-to - l)) l-ends (part right r (r-to - r)) r-ends n d out)
-    (asks : Asks (part left l (l-to - l)) (part right r (r-to - r)) l-ends r-ends n d (length out) c) where
+    (asks : Asks (part left l (l-to - l)) (part right r (r-to - r)) l-ends r-ends n d (length out) c) (goes : ended_by c.wants c.counts.differ ≡ None) where
   -- one turn of the loop: a call, and a read where one is asked for
-  pub again : {w : Wants} {left' right' : List ℕ} {x y : Fed} → c.wants ≡ w → is_whole w ≡ false → length outAfter ≡ length out
-      → l + c.left ≤ l-to → r + c.right ≤ r-to
-      → Sound (length left) x.from x.to → Feeds (wants_left w) left (l + c.left) l-to l-ends left' x → length left' ≡ length left
-      → Sound (length right) y.from y.to → Feeds (wants_right w) right (r + c.right) r-to r-ends right' y → length right' ≡ length right
+  pub again : {left' right' : List ℕ} {x y : Fed} → length outAfter ≡ length out → l + c.left ≤ l-to → r + c.right ≤ r-to
+      → Feeds (wants_left c.wants) left (l + c.left) l-to l-ends left' x → length left' ≡ length left
+      → Feeds (wants_right c.wants) right (r + c.right) r-to r-ends right' y → length right' ≡ length right
       → Kept left₀ right₀ out₀ left' right' outAfter x.from x.to x.ends y.from y.to y.ends c.counts.agree c.counts.differ
-  again {w} wants going out_same l-in r-in x-sound fed left-same y-sound fed' right-same =
-      let on = ap is_whole wants ∙ going in
+  again out_same l-in r-in fed left-same fed' right-same =
+      let on = not_whole c.wants c.counts.differ goes in
       let run = call_on out kept.run kept.left_holds kept.right_holds is on in
       let lh = left_on out kept.run kept.left_holds kept.right_holds is on l-in in
       let rh = right_on out kept.run kept.left_holds kept.right_holds is on r-in in
-      let lg = fed_on lh fed (λ e. kept.left_holds.ends_is ∙ (asks.more_left (wants ∙ left_by w e)).0) in
-      let rg = fed_on rh fed' (λ e. kept.right_holds.ends_is ∙ (asks.more_right (wants ∙ right_by w e)).0) in
+      let lg = fed_on lh fed (λ e. kept.left_holds.ends_is ∙ (asks.more_left (left_by c.wants e)).0) in
+      let rg = fed_on rh fed' (λ e. kept.right_holds.ends_is ∙ (asks.more_right (right_by c.wants e)).0) in
       record {
         left_size = left-same ∙ kept.left_size;
         right_size = right-same ∙ kept.right_size;
         out_size = out_same ∙ kept.out_size;
-        left_sound = record { ordered = x-sound.ordered; inside = omega (arith, x-sound.inside) };
-        right_sound = record { ordered = y-sound.ordered; inside = omega (arith, y-sound.inside) };
+        left_sound = record { ordered = fed.sound.ordered; inside = omega (arith, fed.sound.inside) };
+        right_sound = record { ordered = fed'.sound.ordered; inside = omega (arith, fed'.sound.inside) };
         u = lg.next;
         v = rg.next;
         text = _;
@@ -93,7 +103,3 @@ module _ {left₀ right₀ out₀ left right out : List ℕ} {l l-to : ℕ} {l-e
         left_holds = lg.holds;
         right_holds = rg.holds;
       }
-
--- the bytes that a read leaves stand in their block
-pub filled_sound : {before after : List ℕ} {from to : ℕ} {x : Fed} → Fills before from to after x → Sound (length before) x.from x.to
-filled_sound f = record { ordered = omega (arith, f.first); inside = f.inside }

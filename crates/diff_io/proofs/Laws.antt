@@ -2,7 +2,7 @@
 -- `whole` there are about the program's text too (RULES 19).
 -- Assumes nothing.
 use mathlib.Core.Path.{◌≡◌, refl, sym, ap, ap₂, ◌∙◌, subst}
-use mathlib.Core.Bool.{Bool, true, false, true≢false}
+use mathlib.Core.Bool.{Bool, true, false}
 use mathlib.Core.List.{List, [], ◌++◌, append-nil}
 use Prim.Native.Nat.{ℕ, ◌+◌, ◌-◌, ◌≤◌}
 use native.Mathlib.Omega.{arith}
@@ -15,7 +15,7 @@ use Rattle.base.proofs.Tests.{by_test}
 use Rattle.comparing.specs.Call.{is_whole, compared_of}
 use Rattle.comparing.specs.Run.{Upload, offered, over, went, Lent, Run, offer_left, offer_right, end_left, end_right, call}
 use Rattle.comparing.specs.declared.Compared.{Compared}
-use Rattle.diff_io.specs.State.{Fills}
+use Rattle.diff_io.specs.State.{Fills, Feeds}
 use Rattle.diff_io.specs.declared.Fed.{Fed}
 
 -- the unread bytes of an upload are those that stand in its block
@@ -58,17 +58,6 @@ pub record Goes (u : Upload) (after : List ℕ) (r : Fed) : Type 0 where
   pub next : Upload
   pub grown : Grown u next
   pub holds : Holds next after r.from r.to r.ends
-
--- a block is fed where that is asked for; else all is as it was
-pub record Feeds (wanted : Bool) (before : List ℕ) (from to : ℕ) (ends : Bool) (after : List ℕ) (r : Fed) : Type 0 where
-  pub stays : wanted ≡ false → (r ≡ record { from = from; to = to; ends = ends }) × (after ≡ before)
-  pub fills : wanted ≡ true → Fills before from to after r
-
-pub not_fed : (before : List ℕ) (from to : ℕ) (ends : Bool) → Feeds false before from to ends before (record { from = from; to = to; ends = ends })
-not_fed before from to ends = record { stays = λ _. (refl, refl); fills = λ e. absurd (true≢false (sym e)) }
-
-pub was_fed : {before : List ℕ} {from to : ℕ} (ends : Bool) {after : List ℕ} {r : Fed} → Fills before from to after r → Feeds true before from to ends after r
-was_fed ends f = record { stays = λ e. absurd (true≢false e); fills = λ _. f }
 
 module _ {u : Upload} {before after : List ℕ} {from to : ℕ} {ends : Bool} {r : Fed} (holds : Holds u before from to ends) where
   filled : Fills before from to after r → u.unread ++ drop (to - from) (take r.to after) ≡ part after r.from (r.to - r.from)

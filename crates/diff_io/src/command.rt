@@ -1,6 +1,7 @@
 // The arguments of the program diff, what it reports, and its status.
-ghost use Rattle.std.specs.Prelude.{◌≡◌, ◌≤◌};
+ghost use Rattle.std.specs.Prelude.{◌≡◌, ◌≤◌, length};
 ghost use Rattle.std.specs.Result.{is_ok};
+ghost use Rattle.program.specs.Answers.{NamesWithin};
 ghost use Rattle.diff_io.specs.State.{status_of, is_upload, status_printed};
 
 use crate::{Found, Stopped, compare_inputs};
@@ -131,7 +132,9 @@ pub(crate) fn compare_both(console: &Console<'_>, left: Asked<'_>, right: Asked<
 }
 
 // Argument i, which comes to the buffer. One that is missing or too long is an upload that can't be opened.
-fn read_upload<'a>(console: &Console<'_>, i: usize, word: &'a mut [u8]) -> Asked<'a> {
+fn read_upload<'a>(console: &Console<'_>, i: usize, word: &'a mut [u8]) -> Asked<'a>
+    ensures { NamesWithin (length word.old) result }
+{
     match console.rt.arg(i, word) {
         Ok(len) => asked_by(console, &USAGE, &word[..len]),
         Err(_) => Asked::Failed,

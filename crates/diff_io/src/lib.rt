@@ -6,11 +6,11 @@
 
 mod command;
 
-ghost use Rattle.std.specs.Prelude.{◌≡◌, ◌-◌, ◌≤◌, length, take, IfOk};
+ghost use Rattle.std.specs.Prelude.{◌≡◌, true, ◌-◌, ◌≤◌, length, take, IfOk};
 ghost use Rattle.base.specs.Parts.{part};
 ghost use Rattle.reading.specs.Reading.{limit};
-ghost use Rattle.comparing.specs.Call.{compared_of, Within, longest_turn};
-ghost use Rattle.diff_io.specs.State.{Short, Fills, found_by};
+ghost use Rattle.comparing.specs.Call.{compared_of, Within, longest_turn, wants_left, wants_right};
+ghost use Rattle.diff_io.specs.State.{Sound, Short, Fills, Feeds, found_by, ended_by};
 
 use comparing::{Compared, Counts, Unread, Wants, compare_in};
 use program::{Asked, Console, Failed, Input, print, read_some};
@@ -80,7 +80,24 @@ fn refill(
     })
 }
 
-// One call of the comparison, and a write of what it wrote.
+// .. where it is asked for.
+fn feed(
+    console: &Console<'_>,
+    is_wanted: bool,
+    input: &mut Input<'_>,
+    block: &mut [u8],
+    fed: Fed,
+) -> Result<Fed, Failed>
+    requires { (Sound (length block.old) fed.from fed.to) × (is_wanted ≡ true → Short (length block.old) fed.from fed.to) }
+    ensures { IfOk result (λ next. Feeds is_wanted block.old fed.from fed.to fed.ends block.new next) }
+{
+    if is_wanted {
+        return refill(console, input, block, fed.from, fed.to);
+    }
+    Ok(fed)
+}
+
+// One call of the comparison, and a write of what it wrote: the buffer has that whatever becomes of the write.
 fn compare_part(
     console: &Console<'_>,
     left: Unread<'_>,
@@ -88,11 +105,24 @@ fn compare_part(
     counts: Counts,
     out: &mut [u8],
 ) -> Result<Compared, Failed>
-    ensures { IfOk result (λ compared. ((compared, out.new) ≡ compared_of left.entry.bytes.now left.entry.ends right.entry.bytes.now right.entry.ends counts.agree counts.differ out.old) × Within (length left.entry.bytes.now) (length right.entry.bytes.now) (length out.old) compared) }
+    ensures text { out.new ≡ (compared_of left.entry.bytes.now left.entry.ends right.entry.bytes.now right.entry.ends counts.agree counts.differ out.old).1 }
+    ensures ok { IfOk result (λ compared. ((compared, out.new) ≡ compared_of left.entry.bytes.now left.entry.ends right.entry.bytes.now right.entry.ends counts.agree counts.differ out.old) × Within (length left.entry.bytes.now) (length right.entry.bytes.now) (length out.old) compared) }
 {
     let compared = compare_in(left, right, counts, out);
     print(console, &out[..compared.written])?;
     Ok(compared)
+}
+
+fn is_left(wants: Wants) -> bool
+    ensures { result ≡ wants_left wants }
+{
+    matches!(wants, Wants::Left)
+}
+
+fn is_right(wants: Wants) -> bool
+    ensures { result ≡ wants_right wants }
+{
+    matches!(wants, Wants::Right)
 }
 
 // What a whole text says that names so many differences.
@@ -103,6 +133,17 @@ fn found_by(differ: u64) -> Found
         return Found::Same;
     }
     Found::Other
+}
+
+// How a comparison ended that goes no further: it asks neither for more bytes nor for room.
+fn ended_by(wants: Wants, differ: u64) -> Option<Result<Found, Stopped>>
+    ensures { result ≡ ended_by wants differ }
+{
+    match wants {
+        Wants::Left | Wants::Right | Wants::Room => None,
+        Wants::Nothing => Some(Ok(found_by(differ))),
+        Wants::Refused(_) => Some(Err(Stopped::Uncounted)),
+    }
 }
 
 // Reads both uploads to their ends, each into a block of its own.
@@ -141,15 +182,14 @@ fn compare_blocks(
             out,
         )?;
         counts = compared.counts;
+        let wants = compared.wants;
+        if let Some(ended) = ended_by(wants, counts.differ) {
+            return ended;
+        }
         l.from += compared.left;
         r.from += compared.right;
-        match compared.wants {
-            Wants::Left => l = refill(console, left_input, left, l.from, l.to)?,
-            Wants::Right => r = refill(console, right_input, right, r.from, r.to)?,
-            Wants::Room => {}
-            Wants::Nothing => return Ok(found_by(counts.differ)),
-            Wants::Refused(_) => return Err(Stopped::Uncounted),
-        }
+        l = feed(console, is_left(wants), left_input, left, l)?;
+        r = feed(console, is_right(wants), right_input, right, r)?;
     }
     Err(Stopped::Uncounted)
 }

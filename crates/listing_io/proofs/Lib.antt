@@ -1,3 +1,4 @@
--- `Kept`: the loop over a piece. `Laws`: piece after piece.
+-- `Kept`: the loop over a piece. `Turns`: what becomes of one. `Laws`: piece after piece.
 mod Kept
+mod Turns
 pub mod Laws

@@ -4,8 +4,11 @@ use Rattle.std.specs.Prelude.{None, Some, Result, Ok, Err, ℕ, ◌-◌, ◌≤�
 use Rattle.reading.specs.Reading.{reading}
 use Rattle.stream.specs.Places.{held_in}
 use Rattle.listing.specs.Numbering.{Numbering, past}
+use Rattle.refusals.specs.declared.Refusal.{Refusal}
+use Rattle.listing.specs.declared.Listed.{Listed}
 use Rattle.listing_io.specs.declared.State.{State}
 use Rattle.listing_io.specs.declared.Stopped.{Stopped}
+use Rattle.listing_io.specs.declared.Stopped.TheVariants.{Failed, Unnumbered}
 
 -- what stands before the first line: nothing, or the position of the first byte
 abbrev pub first_number : Bool → Numbering
@@ -18,6 +21,15 @@ pub record Sound (places start end : ℕ) : Type 0 where
   pub ordered : start ≤ end
   pub inside : end ≤ places
   pub few : end - start < places
+
+-- what becomes of a turn: a call that is refused has no numbers for its lines, and lines of which a call is answered are written or not
+abbrev pub Becomes : Result Listed Refusal → Result Listed Stopped → Type 0
+Becomes (Ok listed) (Ok l) = l ≡ listed
+Becomes (Ok listed) (Err (Failed f)) = Unit {0}
+Becomes (Ok listed) (Err Unnumbered) = ⊥
+Becomes (Err refusal) (Ok l) = ⊥
+Becomes (Err refusal) (Err (Failed f)) = ⊥
+Becomes (Err refusal) (Err Unnumbered) = Unit {0}
 
 -- what a piece leaves, all of it listed and written: the held bytes are the tail of those held before and then the piece (RULES 5), and the numbering
 -- stands behind the answers to these (RULES 18)

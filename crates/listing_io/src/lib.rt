@@ -5,10 +5,13 @@
 
 mod command;
 
-ghost use Rattle.std.specs.Prelude.{◌≡◌, ◌≤◌, ◌<◌, length, Ok, IfOk, IfSome};
+ghost use Rattle.std.specs.Prelude.{◌≡◌, ◌≤◌, ◌<◌, length, Result, Ok, IfOk, IfSome};
 ghost use Rattle.reading.specs.Reading.{limit};
+ghost use Rattle.refusals.specs.declared.Refusal.{Refusal};
 ghost use Rattle.listing.specs.Fill.{Lists};
-ghost use Rattle.listing_io.specs.State.{Sound, Leaves, first_number};
+ghost use Rattle.listing.specs.declared.Listed.{Listed};
+ghost use Rattle.listing_io.specs.declared.Stopped.TheVariants as stopped;
+ghost use Rattle.listing_io.specs.State.{Sound, Becomes, Leaves, first_number};
 
 use lines::line::{LONGEST, LONGEST_POSITION};
 use listing::{Listed, Status, list_in, list_last};
@@ -29,12 +32,16 @@ enum Stopped {
 }
 
 impl From<Failed> for Stopped {
+    ghost from_gives = { λ failed result. result ≡ stopped.Failed failed };
+
     fn from(failed: Failed) -> Stopped {
         Stopped::Failed(failed)
     }
 }
 
 impl From<Refusal> for Stopped {
+    ghost from_gives = { λ refusal result. result ≡ stopped.Unnumbered };
+
     fn from(_refusal: Refusal) -> Stopped {
         Stopped::Unnumbered
     }
@@ -48,7 +55,7 @@ struct State {
     numbering: Option<u64>,
 }
 
-// One turn: as many lines as the buffer has room for, and a write of them.
+// One turn: as many lines as the buffer has room for, and a write of them. The buffer has them whatever becomes of the write.
 fn list_part(
     console: &Console<'_>,
     places: &mut [u8],
@@ -57,7 +64,8 @@ fn list_part(
     input: &[u8],
 ) -> Result<Listed, Stopped>
     requires { Sound (length places.old) state.start state.end }
-    ensures { IfOk result (λ listed. Lists places.old state.start state.end state.numbering input.now out.old places.new out.new (Ok listed)) }
+    ensures text { (listed : Result Listed Refusal) × (Lists places.old state.start state.end state.numbering input.now out.old places.new out.new listed × Becomes listed result) }
+    ensures ok { IfOk result (λ listed. Lists places.old state.start state.end state.numbering input.now out.old places.new out.new (Ok listed)) }
 {
     let listed = list_in(places, state.start, state.end, state.numbering, input, out)?;
     print(console, &out[..listed.written])?;

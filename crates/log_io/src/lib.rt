@@ -9,11 +9,13 @@ mod command;
 ghost use Rattle.std.specs.Prelude.{◌≡◌, true, ◌*◌, ◌≤◌, length, IfOk};
 ghost use Rattle.reading.specs.Reading.{limit};
 ghost use Rattle.log_lines.specs.Text.{longest_entry};
+ghost use Rattle.log_lines.specs.Part.{Lists};
+ghost use Rattle.log_lines.specs.declared.Listed.{Listed};
 ghost use Rattle.log_reader.specs.State.{state_of, is_state};
 ghost use Rattle.log_io.specs.declared.Stopped.TheVariants as stopped;
-ghost use Rattle.log_io.specs.State.{Ready, Leaves, Ends};
+ghost use Rattle.log_io.specs.State.{next_by, next_after, Ready, Leaves, state_after, Ends};
 
-use log_lines::{Listed, list_part, put_last};
+use log_lines::{list_part, put_last};
 use log_reader::{Reader, end, reset};
 use program::{Console, Failed, Input, print, read_some};
 use refusals::Refusal;
@@ -52,23 +54,60 @@ impl From<Refusal> for Stopped {
     }
 }
 
-// All lines of a piece, and a write of them.
+// What comes after a piece.
+#[derive(Clone, Copy)]
+enum Next {
+    // Another read.
+    Read,
+    // The last line: the log is refused.
+    End,
+}
+
+// Where the reader stands behind a piece, and what comes then.
+#[derive(Clone, Copy)]
+struct State {
+    reader: Reader,
+    next: Next,
+}
+
+// A log that is refused is read no further.
+fn next_by(status: Result<(), Refusal>) -> Next
+    ensures { result ≡ next_by status }
+{
+    match status {
+        Ok(()) => Next::Read,
+        Err(_) => Next::End,
+    }
+}
+
+// .. nor is any, once a write has failed.
+fn next_after(written: Result<(), Failed>, status: Result<(), Refusal>) -> Result<Next, Failed>
+    ensures { result ≡ next_after written status }
+{
+    written?;
+    Ok(next_by(status))
+}
+
+// All lines of a piece, and a write of them. The buffer has them, and the reader stands behind the piece, whatever becomes of the write.
 fn list_piece(
     console: &Console<'_>,
     places: &mut [u8],
     out: &mut [u8],
     reader: Reader,
     piece: &[u8],
-) -> Result<Listed, Failed>
+) -> Result<State, Failed>
     requires { Ready places.old reader (length piece.now) (length out.old) }
-    ensures { IfOk result (λ listed. Leaves places.old reader piece.now places.new listed.reader) }
+    ensures left { (listed : Listed) × (Lists places.old reader piece.now out.old places.new out.new listed × (Leaves places.old reader piece.now places.new listed.reader × IfOk result (λ state. state ≡ state_after listed))) }
+    ensures ok { IfOk result (λ state. Leaves places.old reader piece.now places.new state.reader) }
 {
     let listed = list_part(places, reader, piece, out);
-    print(console, &out[..listed.written])?;
-    Ok(listed)
+    let written = print(console, &out[..listed.written]);
+    let next = next_after(written, listed.status)?;
+    let reader = listed.reader;
+    Ok(State { reader, next })
 }
 
-// Reads to the end of the input, or to a refusal: a log that is refused is read no further. Answers where the reader stands then. The loop counts its
+// Reads to the end of the input, or to a refusal. Answers where the reader stands then. The loop counts its
 // turns, to a number that no run uses up.
 fn list_reads(
     console: &Console<'_>,
@@ -86,10 +125,11 @@ fn list_reads(
         if count == 0 {
             return Ok(reader);
         }
-        let listed = list_piece(console, places, out, reader, &piece[..count])?;
-        reader = listed.reader;
-        if listed.status.is_err() {
-            return Ok(reader);
+        let state = list_piece(console, places, out, reader, &piece[..count])?;
+        reader = state.reader;
+        match state.next {
+            Next::Read => {}
+            Next::End => return Ok(reader),
         }
     }
     Err(Failed::Read)
