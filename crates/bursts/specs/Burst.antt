@@ -30,6 +30,10 @@ bad set = ltb (first_above set) channels_count
 abbrev pub first_bad : List (List ℕ) → ℕ
 first_bad sets = first_where bad sets
 
+-- .. or none
+abbrev pub set_bad : List (List ℕ) → Option ℕ
+set_bad sets = when ltb (first_bad sets) (length sets) then Some (first_bad sets) else None
+
 -- .. with the place of its first such channel, or none
 abbrev pub place_bad : List (List ℕ) → Option (ℕ × ℕ)
 place_bad sets =
