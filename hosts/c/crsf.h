@@ -29,14 +29,14 @@
  * Stack: bytes that a call needs at most, with its return address and its arguments counted in. Measured on x86-64 by painting the stack:
  * `hosts/test --stack` measures again, and fails where a call needs more than this.
  *     crsf_next_raw_packet              120        crsf_reset                         24
- *     crsf_save                          72        crsf_restore                      112
+ *     crsf_save                          72        crsf_restore                       72
  *     crsf_held                          24        crsf_position                      24
  *     crsf_is_address                    24        crsf_header_of                     24
  *     crsf_checksum                      24        crsf_pack_altitude                 24
  *     crsf_baro_decimetres               24        crsf_gps_metres                    24
  *     crsf_channel_microseconds          24        crsf_raw_view                      24
  *     crsf_write_link_statistics        216        crsf_write_rc_channels_packed     248
- *     crsf_write_rc_channels_burst      168        crsf_write_gps                    168
+ *     crsf_write_rc_channels_burst      120        crsf_write_gps                    168
  *     crsf_write_gps_extended           248        crsf_write_battery                152
  *     crsf_write_baro_altitude          136        crsf_write_rpm                    168
  *     crsf_write_temp                   168        crsf_write_voltages               168

@@ -1,7 +1,7 @@
 -- What the tests of a state say, and from what is said of its places to what is said of the state.
 -- Assumes nothing.
 use Rattle.std.specs.Prelude.{Ok, Err}
-use mathlib.Core.Path.{◌≡◌, refl, sym, ap, ap₂, ◌∙◌}
+use mathlib.Core.Path.{◌≡◌, refl, sym, ap, ap₂, ◌∙◌, subst}
 use mathlib.Core.Bool.{Bool, true, false, and-eq-true_iff}
 use mathlib.Core.List.{List, [], ◌++◌, append-nil}
 use Prim.Native.Nat.{ℕ, ◌-◌, ◌≤◌}
@@ -17,7 +17,8 @@ use Rattle.refusals.specs.declared.Refusal.TheVariants.{BadState}
 use Rattle.reading.specs.Reading.{limit}
 use Rattle.log_reader.specs.State as reader
 use Rattle.log_reader.specs.State.{of_logs}
-use Rattle.log_reader.specs.Reader.{Runs, Nexts, Closes}
+use Rattle.kit_log.specs.Reading.{State, number, frame, refused, ended}
+use Rattle.log_reader.specs.Reader.{Ending, Runs, Nexts, Finishes, Closes, ending_of}
 use Rattle.log_reader.specs.declared.Wanted.TheVariants.{Version}
 use Rattle.log_reader.specs.declared.Reader.{Reader}
 use Rattle.log_reader.specs.declared.Reader.TheVariants.{Number}
@@ -27,8 +28,8 @@ use Rattle.log_reader.specs.declared.Answered.{Answered}
 use Rattle.log_reader.specs.declared.Closed.{Closed}
 use Rattle.host_log.specs.declared.head.Head.{Head}
 use Rattle.host_log.specs.State.{places_at, size, bytes_of, head_of, reader_in, places_in, state_of, has_form, is_state}
-use Rattle.log_reader.proofs.Reached.{refused_of_logs}
-use Rattle.host_log.specs.Calls.{bad_state, StateSteps, StateEnds, ending_row, reset_state}
+use Rattle.log_reader.proofs.Reached.{refused_here, refused_of_logs}
+use Rattle.host_log.specs.Calls.{bad_state, bad_end, StateSteps, StateEnds, ending_row, reset_state}
 use Rattle.host_log.proofs.Heads.{length_head}
 
 -- ---- the tests
@@ -152,6 +153,42 @@ module _ (s : List ℕ) (form : has_form s ≡ true) where
           };
         }
 
+pub end_refused : (s : List ℕ) → is_state s ≡ false → StateEnds s s (Err BadState)
+end_refused s e = record { refuses = λ _. (refl, refl); ends = λ t. absurd (let z : ◌≡◌ {A = ℕ} 0 1 = cc in omega arith) }
+
+-- where the end is refused with 8, the state is none
+refused_end : (st : State) {k : Refusal} → ending_of st ≡ Err k → st ≡ refused k
+unfolding ending_of
+refused_end (number want v w) e = absurd (let z : ◌≡◌ {A = ℕ} 0 1 = cc in omega arith)
+refused_end (frame t n h) e = absurd (let z : ◌≡◌ {A = ℕ} 0 1 = cc in omega arith)
+refused_end (refused r) e = cc
+refused_end ended e = absurd (let z : ◌≡◌ {A = ℕ} 0 1 = cc in omega arith)
+
+not_bad_end : {p : List ℕ} {st : Reader} {c : Closed} → Finishes p st c → bad_end c.ending ≡ false
+not_bad_end {p} {c = c} f = by c.ending refl
+  where
+    by : (x : Ending) → c.ending ≡ x → bad_end x ≡ false
+    by (Ok u) e = refl
+    by (Err r) e = not_8 r (refused_here p c.reader f.stands (refused_end (reader.state_of p c.reader) (ap ending_of f.finished ∙ sym f.said ∙ e)))
+
+module _ (s : List ℕ) (form : has_form s ≡ true) {r : Reader} {lent : List ℕ} {c : Closed} (r-is : r ≡ reader_in s) (Lent-is : lent ≡ places_in s)
+    (closes : Closes lent r c) where
+  closed_state : reader.is_state lent r ≡ is_state s
+  closed_state = ap₂ reader.is_state Lent-is r-is ∙ sym (state_is s form)
+
+  pub end_bad : {b : Bool} → b ≡ bad_end c.ending → b ≡ true → StateEnds s s c.ending
+  end_bad e q =
+      by_test (is_state s)
+      (λ t. absurd (let z : ◌≡◌ {A = ℕ} 0 1 = cc (sym (sym e ∙ q) ∙ not_bad_end (closes.finishes (closed_state ∙ t))) in omega arith))
+      (λ t. subst (StateEnds s s) (sym (ap (λ (x : Closed). x.ending) (closes.refuses (closed_state ∙ t)))) (end_refused s t))
+
+  pub end_good : {b : Bool} → b ≡ bad_end c.ending → b ≡ false → is_state s ≡ true
+  end_good e q =
+      by_test (is_state s) (λ t. t)
+      (λ t.
+      let bad : bad_end c.ending ≡ true = ap (λ (x : Closed). bad_end x.ending) (closes.refuses (closed_state ∙ t)) in
+      absurd (let z : ◌≡◌ {A = ℕ} 0 1 = cc in omega arith))
+
 module _ (s : List ℕ) (good : is_state s ≡ true) where
   pub end_moves : (after : List ℕ) {r : Reader} {lent : List ℕ} {c : Closed} → r ≡ reader_in s → lent ≡ places_in s → Closes lent r c
       → after ≡ bytes_of (head_of c.reader) ++ drop places_at s → StateEnds s after c.ending
@@ -161,9 +198,6 @@ module _ (s : List ℕ) (good : is_state s ≡ true) where
         refuses = λ f. absurd (let z : ◌≡◌ {A = ℕ} 0 1 = cc in omega arith);
         ends = λ _. record { reader = c.reader; finishes = rw (← Lent-is, ← r-is) finishes; is = is };
       }
-
-pub end_refused : (s : List ℕ) → is_state s ≡ false → StateEnds s s (Err BadState)
-end_refused s e = record { refuses = λ _. (refl, refl); ends = λ t. absurd (let z : ◌≡◌ {A = ℕ} 0 1 = cc in omega arith) }
 
 -- ---- a reset
 

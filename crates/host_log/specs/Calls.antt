@@ -31,6 +31,10 @@ pub record StateSteps (before input after : List ℕ) (r : Replied) : Type 0 whe
   pub refuses : is_state before ≡ false → (r ≡ record { taken = 0; answer = answer.Refused BadState }) × (after ≡ before)
   pub moves : is_state before ≡ true → Moves before input after r
 
+abbrev pub bad_end : Ending → Bool
+bad_end (Ok tt) = false
+bad_end (Err r) = eqb (number_of r) 8
+
 pub record Ends (before after : List ℕ) (r : Ending) : Type 0 where
   pub reader : Reader
   pub finishes : Finishes (places_in before) (reader_in before) (record { reader = reader; ending = r })

@@ -7,7 +7,7 @@ pub mod head;
 
 ghost use Rattle.std.specs.Prelude.{◌≡◌};
 ghost use Rattle.host_log.specs.State.{has_form, is_state};
-ghost use Rattle.host_log.specs.Calls.{bad_state, StateSteps, StateEnds, ending_row, reset_state};
+ghost use Rattle.host_log.specs.Calls.{bad_state, bad_end, StateSteps, StateEnds, ending_row, reset_state};
 
 use head::{PLACES, SIZE, put_reader, reader_in};
 use log_reader::Answer;
@@ -71,16 +71,25 @@ pub fn step(state: &mut [u8], input: &[u8]) -> Replied
     }
 }
 
-// The log ends here.
-#[tactic(auto, using(crate::proofs::States::state_size))]
+fn is_bad_end(ending: Result<(), Refusal>) -> bool
+    ensures { result ≡ bad_end ending }
+{
+    matches!(ending, Err(Refusal::BadState))
+}
+
+// The log ends here. As in a call, the reader tests the state: where it refuses that, the head stays too.
+#[tactic(auto, using(crate::proofs::States::form_size))]
 pub fn end(state: &mut [u8]) -> Result<(), Refusal>
     ensures { StateEnds state.old state.new result }
 {
-    if !is_state(state) {
+    if !has_form(state) {
         return Err(Refusal::BadState);
     }
     let reader = reader_in(state);
     let closed = log_reader::end(&state[PLACES..], reader);
+    if is_bad_end(closed.ending) {
+        return closed.ending;
+    }
     let last = closed.reader;
     put_reader(state, last);
     closed.ending

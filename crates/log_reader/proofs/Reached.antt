@@ -48,7 +48,7 @@ taken_71 {before} {input} {st = st} {r} s runs =
 
 -- ---- a call on a state is not refused with 8
 
-refused_here : (p : List ℕ) (st : Reader) {r : Refusal} → is_state p st ≡ true → state_of p st ≡ refused r → of_logs r ≡ true
+pub refused_here : (p : List ℕ) (st : Reader) {r : Refusal} → is_state p st ≡ true → state_of p st ≡ refused r → of_logs r ≡ true
 refused_here p (Number wanted v g) s e = absurd (let z : ◌≡◌ {A = ℕ} 0 1 = cc in omega arith)
 refused_here p (Frame t n k) s e = absurd (let z : ◌≡◌ {A = ℕ} 0 1 = cc in omega arith)
 refused_here p (Refused k) {r} s e =

@@ -58,6 +58,9 @@ module _ (n k : ℕ) (p : List ℕ) (short : k < n) (room : n ≤ length p) wher
       some zero h = absurd (h refl)
       some (suc k) h = omega arith
 
+  pub held_none : k ≡ 0 → true ≡ held_fine n p k
+  held_none e = simp (eq-eqb k 0 e)
+
   pub held_unlisted : (k ≡ 0 → ⊥) → listed (get_or p 0 0) ≡ false → false ≡ held_fine n p k
   held_unlisted h e = rw (held_is h, e)
 

@@ -6,7 +6,7 @@ use mathlib.Core.Bool.{true, false, and-eq-true_iff, ◌&&◌}
 use mathlib.Core.List.{List, ◌++◌}
 use Prim.Native.Nat.{ℕ, ◌+◌, ◌-◌, ◌≤◌, ◌<◌}
 use native.Mathlib.Omega.{arith}
-use borrow.Author.Tests.{ltb-true, leb-true, eqb-true, le-leb, lt-leb, eq-eqb, ne_eqb}
+use borrow.Author.Tests.{ltb-true, leb-true, eqb-true, le-leb, lt-leb, lt-ltb, eq-eqb, ne_eqb}
 use lib.Dec.{leb, ltb}
 use lib.ListN.{length, take, drop, length-drop}
 use lib.Seq.{take_all}
@@ -35,6 +35,11 @@ savable m start end e =
     let first = (and-eq-true_iff (leb start end) (leb end m && ltb (end - start) m)).0 e in
     let second = (and-eq-true_iff (leb end m) (ltb (end - start) m)).0 first.1 in
     record { ordered = leb-true start end first.0; inside = leb-true end m second.0; few = ltb-true (end - start) m second.1 }
+
+pub savable_is : {m start end : ℕ} → Savable m start end → is_savable m start end ≡ true
+unfolding is_savable
+savable_is {m} {start} {end} s =
+    simp (le-leb start end s.ordered, le-leb end m s.inside, lt-ltb (end - start) m s.few)
 
 -- a form that is accepted: its count is that of its held bytes, which are fewer than the limit and stand behind it
 pub record Accepted (m : ℕ) (form : List ℕ) : Type 0 where

@@ -63,6 +63,8 @@ fn is_marked(form: &[u8]) -> bool
     form.first() == Some(&MARK)
 }
 
+// Inlined into its two callers: as a call it hands its answer back through memory, and a restore needed more stack.
+#[inline(always)]
 fn head_of<'a>(form: &'a [u8]) -> Head<'a>
     ensures position { result.position ≡ position_in form.now }
     ensures older { result.older.now ≡ older_in form.now }
