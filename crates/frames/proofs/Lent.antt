@@ -1,5 +1,6 @@
 -- The law of the frame writers, `lent`: the record's own writer is lent the payload's places of the buffer, behind the head and before the check byte;
--- what it leaves there is framed, or its refusal is passed on and every byte kept. Where it is lent no place it refuses: `lent_none`.
+-- what it leaves there is framed, or its refusal is passed on and every byte kept. Its two cases: `lent_long`, where there is a place for a payload, and which
+-- the writers cite, and `lent_short`. A writer that is lent no place refuses, and that is what the frame's writer answers: `lent_none`.
 -- Assumes nothing.
 use Rattle.std.specs.Prelude.{Ok, Err}
 use mathlib.Core.Path.{◌≡◌, refl, sym, ap, subst, ◌∙◌}
@@ -8,8 +9,11 @@ use mathlib.Core.List.{List}
 use mathlib.Core.Logic.{⊎_elim}
 use Prim.Native.Nat.{ℕ, ◌+◌, ◌-◌, ◌≤◌, ◌<◌}
 use native.Mathlib.Omega.{arith}
+use borrow.Author.Tests.{le-leb, lt-leb}
+use lib.Dec.{leb}
 use lib.ListN.{length, drop, length-drop}
 use lib.Seq.{length-take-le}
+use Rattle.base.specs.Choice.{when◌then◌else◌}
 use Rattle.base.specs.Parts.{pasted}
 use Rattle.base.proofs.Parts.{length_pasted, cut_out, around, around_kept, put_there}
 use Rattle.base.proofs.Tests.{below}
@@ -22,8 +26,20 @@ use Rattle.writing.specs.Writing.{Written}
 use Rattle.writing.proofs.Writing.{writes, overflows, refuses}
 use Rattle.writing.proofs.Rows.{one_write}
 use Rattle.layout.specs.Packet.{Small}
-use Rattle.frames.specs.Frames.{framed_body, framed, whole_in, sealed_of}
+use Rattle.frames.specs.Frames.{framed_body, framed, overhead, whole_in, sealed_of}
 use Rattle.frames.proofs.Built.{short, sealed}
+
+-- ---- the payload's places
+
+-- where the payload starts in a buffer of that many bytes: behind the head. A buffer with no room for head and check byte has no place for one
+abbrev pub payload_start : ℕ → ℕ
+payload_start len = when leb overhead len then 3 else 0
+
+pub start_short : (len : ℕ) → len < 4 → payload_start len ≡ 0
+start_short len h = simp (lt-leb 4 len h)
+
+pub start_long : (len : ℕ) → 4 ≤ len → payload_start len ≡ 3
+start_long len h = simp (le-leb 4 len h)
 
 -- ---- the law
 
@@ -75,9 +91,9 @@ module _ (dest kind : ℕ) (b : List ℕ) where
               ap (λ (x : Written × List ℕ). (written_row x.0, x.1)) q ∙ sealed pay (length pay) dest kind refl b fits there refl;
         }
 
-    pub lent : (image : Image) {w : Written} {ys : List ℕ} → Small image → (written_row w, ys) ≡ write_of image (cut_out b 3 to)
+    pub lent_long : (image : Image) {w : Written} {ys : List ℕ} → Small image → (written_row w, ys) ≡ write_of image (cut_out b 3 to)
         → Framed dest kind b 3 to image w ys
-    lent (bytes pay) small e =
+    lent_long (bytes pay) small e =
         ⊎_elim
         (λ (less : length b < length pay + 4).
         again (one_write e (overflows pay (cut_out b 3 to) (length pay) refl (omega (arith, places_length, small.0))))
@@ -85,7 +101,15 @@ module _ (dest kind : ℕ) (b : List ℕ) where
         (λ (fits : length pay + 4 ≤ length b).
         again (one_write e (writes pay (cut_out b 3 to) (length pay) refl (omega (arith, places_length)))) (wrote pay small.1 fits))
         (below (length b) (length pay + 4))
-    lent (refused r) small e = again (one_write e (refuses r (cut_out b 3 to))) (passed 3 to (refused r) r (as_refused r))
+    lent_long (refused r) small e = again (one_write e (refuses r (cut_out b 3 to))) (passed 3 to (refused r) r (as_refused r))
+
+  -- no place at all: the record's own writer refuses, and so does the frame's
+  lent_short : (image : Image) {w : Written} {ys : List ℕ} → length b < 4 → Small image → (written_row w, ys) ≡ write_of image (cut_out b 0 0)
+      → Framed dest kind b 0 0 image w ys
+  lent_short (bytes pay) none small e =
+      again (one_write e (overflows pay (cut_out b 0 0) (length pay) refl small.0))
+      (passed 0 0 (bytes pay) BufferOverflow (short pay (length pay) dest kind refl b (omega arith)))
+  lent_short (refused r) none small e = again (one_write e (refuses r (cut_out b 0 0))) (passed 0 0 (refused r) r (as_refused r))
 
   -- .. and a writer that is lent no place refuses, and that is what the frame's writer answers
   said : {w w' : Written} {ys : List ℕ} {x : List ℕ × List ℕ} → ◌≡◌ {A = Written × List ℕ} (w, ys) (w', cut_out b 0 0)
@@ -100,6 +124,22 @@ module _ (dest kind : ℕ) (b : List ℕ) where
   lent_none (bytes pay) w none small e =
       said (one_write e (overflows pay (cut_out b 0 0) (length pay) refl small.0)) (short pay (length pay) dest kind refl b (omega arith))
   lent_none (refused r) w none small e = said (one_write e (refuses r (cut_out b 0 0))) (as_refused r)
+
+-- every buffer
+module _ (dest kind : ℕ) (b : List ℕ) (from to : ℕ) (starts : from ≡ payload_start (length b)) (ends : to ≡ payload_start (length b) + (length b - 4)) where
+  pub lent : (image : Image) {w : Written} {ys : List ℕ} → Small image → (written_row w, ys) ≡ write_of image (cut_out b from to)
+      → Framed dest kind b from to image w ys
+  lent image small e =
+      ⊎_elim
+      (λ (less : length b < 4).
+      let front : from ≡ 0 = starts ∙ start_short (length b) less in
+      let back : to ≡ 0 = omega (arith, start_short (length b) less) in
+      rw (front, back) (lent_short dest kind b image less small (rw (front, back) at e)))
+      (λ (room : 4 ≤ length b).
+      let front : from ≡ 3 = starts ∙ start_long (length b) room in
+      let back : to ≡ length b - 1 = omega (arith, start_long (length b) room) in
+      rw front (lent_long dest kind b room to back image small (rw front at e)))
+      (below (length b) 4)
 
 -- ---- the address is tested first
 

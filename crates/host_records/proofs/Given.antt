@@ -10,9 +10,10 @@ use borrow.Author.Tests.{le-leb, lt-leb}
 use lib.Dec.{lit<}
 use lib.IntN.{ℤ}
 use lib.ListN.{length, take, drop}
+use Rattle.refusals.specs.Row.{row_of}
 use Rattle.refusals.specs.declared.Refusal.{Refusal}
 use Rattle.refusals.specs.declared.Refusal.TheVariants.{BufferOverflow}
-use Rattle.layout.specs.Decoded.{Decoded, decoded_by, record_row, read_row, read_record}
+use Rattle.layout.specs.Decoded.{Decoded, decoded, refused, decoded_by, record_row, read_row, read_record}
 use Rattle.channels.specs.Channels.{no_channels, channels_read}
 use Rattle.channels.specs.declared.RcChannelsPacked.{RcChannelsPacked}
 use Rattle.series.specs.Series.{Kind, Counted, Read, values_said, series_read, counted_read}
@@ -106,11 +107,21 @@ series_as_record k payload out h e room =
 
 -- ---- Records of fixed layouts, by what their reader decodes
 
-module _ {R : Type 0} (values : R → List ℤ) (out : List ℤ) {read : Decoded} where
-  pub fixed_given : (x : R) {gave : ℕ × List ℤ} → decoded_by values (Ok x) ≡ read → gave ≡ given_all (values x) out → gave ≡ gives read out
-  unfolding gives decoded_by
-  fixed_given x reads gave = gave ∙ rw (← reads)
+module _ {M : Type 0} (decodedBy : M → Decoded) (out : List ℤ) {m : M} {read : Decoded} (reads : decodedBy m ≡ read) where
+  pub fixed_given : {x : M} {ws : List ℤ} {gave : ℕ × List ℤ} → m ≡ x → decodedBy x ≡ decoded ws → gave ≡ given_all ws out → gave ≡ gives read out
+  unfolding gives
+  fixed_given known is gave = gave ∙ rw (← reads, known, is)
 
-  pub fixed_refused : (r : Refusal) {n : ℕ} → decoded_by values (Err r) ≡ read → n ≡ packed (answer_refusal r) → (n, out) ≡ gives read out
-  unfolding gives decoded_by
-  fixed_refused r reads refuses = rw (refuses, ← reads, row_refusal r)
+  pub fixed_refused : {x : M} {n : ℕ} (r : Refusal) → m ≡ x → decodedBy x ≡ refused (row_of r) → n ≡ packed (answer_refusal r) → (n, out) ≡ gives read out
+  unfolding gives
+  fixed_refused r known is refuses = rw (refuses, ← reads, known, is, row_refusal r)
+
+-- .. and of the Result that each such reader answers
+module _ {R : Type 0} (values : R → List ℤ) (out : List ℤ) {read : Decoded} where
+  pub answer_given : (x : R) {gave : ℕ × List ℤ} → decoded_by values (Ok x) ≡ read → gave ≡ given_all (values x) out → gave ≡ gives read out
+  unfolding decoded_by
+  answer_given x reads gave = fixed_given (decoded_by values) out {m = Ok x} reads refl refl gave
+
+  pub answer_refused : (r : Refusal) {n : ℕ} → decoded_by values (Err r) ≡ read → n ≡ packed (answer_refusal r) → (n, out) ≡ gives read out
+  unfolding decoded_by
+  answer_refused r reads refuses = fixed_refused (decoded_by values) out {m = Err r} reads r refl refl refuses

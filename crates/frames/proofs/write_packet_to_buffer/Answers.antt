@@ -5,7 +5,7 @@ use mathlib.Core.Bool.{not}
 use borrow.Author.Tests.{not-true, not-false}
 use Rattle.base.proofs.Tests.{not_as}
 use Rattle.packets.specs.Listed.{listed}
-use Rattle.frames.proofs.Lent.{lent, lent_none, unlisted, addressed, addressed_as}
+use Rattle.frames.proofs.Lent.{lent_long, lent_none, unlisted, addressed, addressed_as}
 use Rattle.frames.proofs.write_packet_to_buffer.Goals as goal
 
 pub returns-then-not-is_address : goal.returns-then-not-is_address
@@ -28,14 +28,14 @@ pub sealed-requires : goal.sealed-requires
 sealed-requires g c =
     let a = c.args in
     let packet = g.P.CrsfPacket in
-    let made = lent a.dest packet.PACKET_TYPE a.buffer.now c.if-buffer-lt-OVERHEAD.false _ refl (packet.image a.packet) (g.met.P.CrsfPacket.small a.packet) c.to_bytes-written.ensures in
+    let made = lent_long a.dest packet.PACKET_TYPE a.buffer.now c.if-buffer-lt-OVERHEAD.false _ refl (packet.image a.packet) (g.met.P.CrsfPacket.small a.packet) c.to_bytes-written.ensures in
     (made.few, made.enough)
 
 pub returns : goal.returns
 returns g c =
     let a = c.args in
     let packet = g.P.CrsfPacket in
-    let made = lent a.dest packet.PACKET_TYPE a.buffer.now c.if-buffer-lt-OVERHEAD.false _ refl (packet.image a.packet) (g.met.P.CrsfPacket.small a.packet) c.to_bytes-written.ensures in
+    let made = lent_long a.dest packet.PACKET_TYPE a.buffer.now c.if-buffer-lt-OVERHEAD.false _ refl (packet.image a.packet) (g.met.P.CrsfPacket.small a.packet) c.to_bytes-written.ensures in
     addressed a.dest packet.PACKET_TYPE (packet.image a.packet) a.buffer.now
     (not-false (listed a.dest) (not_as c.is_address.ensures (ap not c.if-not-is_address.false)))
     made (rw c.PACKET_TYPE.ensures at c.sealed.ensures)

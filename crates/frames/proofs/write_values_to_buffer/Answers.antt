@@ -6,7 +6,7 @@ use borrow.Author.Tests.{not-true, not-false}
 use Rattle.base.proofs.Tests.{not_as}
 use Rattle.packets.specs.Listed.{listed}
 use Rattle.series.specs.Series.{new_image}
-use Rattle.frames.proofs.Lent.{lent, lent_none, unlisted, addressed, addressed_as}
+use Rattle.frames.proofs.Lent.{lent_long, lent_none, unlisted, addressed, addressed_as}
 use Rattle.frames.proofs.write_values_to_buffer.Goals as goal
 
 pub returns-then-not-is_address : goal.returns-then-not-is_address
@@ -32,7 +32,7 @@ sealed-requires g c =
     let a = c.args in
     let kind = g.R.CrsfPacket.PACKET_TYPE in
     let image = new_image g.R.Valued.kind a.id a.values.now in
-    let made = lent a.dest kind a.buffer.now c.if-buffer-lt-OVERHEAD.false _ refl image (g.met.R.Valued.new_small a.id a.values.now) c.write_values-written.ensures in
+    let made = lent_long a.dest kind a.buffer.now c.if-buffer-lt-OVERHEAD.false _ refl image (g.met.R.Valued.new_small a.id a.values.now) c.write_values-written.ensures in
     (made.few, made.enough)
 
 pub returns : goal.returns
@@ -40,7 +40,7 @@ returns g c =
     let a = c.args in
     let kind = g.R.CrsfPacket.PACKET_TYPE in
     let image = new_image g.R.Valued.kind a.id a.values.now in
-    let made = lent a.dest kind a.buffer.now c.if-buffer-lt-OVERHEAD.false _ refl image (g.met.R.Valued.new_small a.id a.values.now) c.write_values-written.ensures in
+    let made = lent_long a.dest kind a.buffer.now c.if-buffer-lt-OVERHEAD.false _ refl image (g.met.R.Valued.new_small a.id a.values.now) c.write_values-written.ensures in
     addressed a.dest kind image a.buffer.now
     (not-false (listed a.dest) (not_as c.is_address.ensures (ap not c.if-not-is_address.false)))
     made (rw c.PACKET_TYPE.ensures at c.sealed.ensures)

@@ -1,10 +1,10 @@
 -- `host::read::crsf_read_gps_extended` meets its contract. Assumes nothing.
 use Rattle.positions.specs.GpsExtended.{gps_extended_values}
-use Rattle.host_records.proofs.Given.{fixed_given, fixed_refused}
+use Rattle.host_records.proofs.Given.{answer_given, answer_refused}
 use Rattle.host.proofs.read.crsf_read_gps_extended.Goals as goal
 
 pub returns-in-Ok : goal.returns-in-Ok
-returns-in-Ok c = fixed_given gps_extended_values c.args.out.now _ c.in-Ok.ensures c.give_gps_extended.ensures
+returns-in-Ok c = answer_given gps_extended_values c.args.out.now _ c.in-Ok.ensures c.give_gps_extended.ensures
 
 pub returns-in-Err : goal.returns-in-Err
-returns-in-Err c = fixed_refused gps_extended_values c.args.out.now _ c.in-Err.ensures c.refuse.ensures
+returns-in-Err c = answer_refused gps_extended_values c.args.out.now _ c.in-Err.ensures c.refuse.ensures
