@@ -9,8 +9,8 @@ ghost use Rattle.parser.specs.Parser.{Nexts};
 
 use numbered::Answered;
 use parser::{CrsfParser, Stepped, held_len, next_raw_packet, position, reset};
+use program::heedless::Heedless;
 use refusals::row_of;
-use std::io::Read;
 use std::{fmt, io};
 use stream::step::{Reply, asks_for_more};
 use view::frame;
@@ -47,7 +47,7 @@ impl fmt::Display for Hex<'_> {
 }
 
 // How much of the standard input is read.
-const MOST: u64 = 4096;
+const MOST: usize = 4096;
 
 // How long a saved form is at most.
 const LONGEST: usize = 75;
@@ -166,11 +166,11 @@ fn report_all(rt: &impl Print, way: Way, input: &[u8]) -> io::Result<()> {
     Ok(())
 }
 
-fn main(rt: HostRuntime) -> io::Result<()> {
-    let mut input = Vec::new(rt.alloc());
-    rt.stdin().take(MOST).read_to_end(&mut input)?;
+fn main(rt: HostRuntime) {
+    let rt = Heedless(rt);
+    let mut input = [0u8; MOST];
+    let len = rt.fill(&mut input);
     for way in [Way::ByValue, Way::Lent, Way::Saved] {
-        report_all(&rt, way, &input)?;
+        let _ = report_all(&rt, way, &input[..len]);
     }
-    Ok(())
 }

@@ -4,9 +4,9 @@
 
 mod edges;
 
+use base::{copy_in, part_of};
 use diff_io::diff_files;
 use program::{Console, print};
-use std::alloc::AllocError;
 
 const PAIRS: [&str; 14] = [
     "equal",
@@ -25,25 +25,35 @@ const PAIRS: [&str; 14] = [
     "blocks",
 ];
 
-// The program on NAME.left and NAME.right, behind a line with the name.
-fn compare_pair(console: &Console<'_>, name: &str) -> Result<(), AllocError> {
-    let alloc = console.rt.alloc();
-    let title = format!(in alloc; "{name}:\n")?;
-    let left = format!(in alloc; "{name}.left")?;
-    let right = format!(in alloc; "{name}.right")?;
-    let _ = print(console, title.as_bytes());
-    diff_files(console.rt, left.as_bytes(), right.as_bytes());
-    Ok(())
+// No name is longer, with what stands behind it.
+const LONGEST: usize = 32;
+
+// A name and what stands behind it, at the front of the buffer.
+fn joined<'a>(buffer: &'a mut [u8; LONGEST], name: &str, ending: &str) -> &'a [u8] {
+    let (name, ending) = (name.as_bytes(), ending.as_bytes());
+    copy_in(buffer, 0, name, name.len());
+    copy_in(buffer, name.len(), ending, ending.len());
+    part_of(buffer, 0, name.len() + ending.len())
 }
 
-fn main(rt: HostRuntime) -> Result<(), AllocError> {
+// The program on NAME.left and NAME.right, behind a line with the name.
+fn compare_pair(console: &Console<'_>, name: &str) {
+    let (mut title, mut left, mut right) = ([0; LONGEST], [0; LONGEST], [0; LONGEST]);
+    let _ = print(console, joined(&mut title, name, ":\n"));
+    diff_files(
+        console.rt,
+        joined(&mut left, name, ".left"),
+        joined(&mut right, name, ".right"),
+    );
+}
+
+fn main(rt: HostRuntime) {
     let console = Console {
         rt: &rt,
         name: b"diff_pairs",
     };
     for name in PAIRS {
-        compare_pair(&console, name)?;
+        compare_pair(&console, name);
     }
     edges::run(&console);
-    Ok(())
 }

@@ -11,11 +11,12 @@ mod show;
 mod written;
 
 use log::Log;
+use program::heedless::Heedless;
 use std::io;
-use std::io::{Read, Write};
+use std::io::Write;
 
 // How much of the standard input is read.
-const MOST: u64 = 65536;
+const MOST: usize = 65536;
 
 fn heading(rt: &impl Print, text: &[u8]) -> io::Result<()> {
     let mut out = io::writer(rt);
@@ -53,9 +54,14 @@ fn items(rt: &impl Print, all: &[u8]) -> io::Result<Log> {
     Ok(log)
 }
 
-fn main(rt: HostRuntime) -> io::Result<()> {
-    let mut input = Vec::new(rt.alloc());
-    rt.stdin().take(MOST).read_to_end(&mut input)?;
-    let log = items(&rt, &input)?;
-    cuts::line(&rt, log.as_slice())
+fn report_all(rt: &impl Print, all: &[u8]) -> io::Result<()> {
+    let log = items(rt, all)?;
+    cuts::line(rt, log.as_slice())
+}
+
+fn main(rt: HostRuntime) {
+    let rt = Heedless(rt);
+    let mut input = [0u8; MOST];
+    let len = rt.fill(&mut input);
+    let _ = report_all(&rt, &input[..len]);
 }

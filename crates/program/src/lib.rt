@@ -1,10 +1,11 @@
 // What every program for people shares: text on standard output, bytes from a file or from standard input, what failed and why on standard error, and
 // what the arguments ask for. What the system does with a read or a write, and which arguments there are, is outside any contract. A read or a write
-// that a signal interrupted is asked again.
+// that a signal interrupted is asked again. The programs that are tests have theirs in `heedless`.
 #![tactic(auto)]
 
 mod argument;
 mod cause;
+pub mod heedless;
 mod source;
 pub mod words;
 

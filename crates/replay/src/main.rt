@@ -14,13 +14,13 @@ use channels::RcChannelsPacked;
 use host_state::SIZE;
 use positions::gps::Gps;
 use positions::gps_extended::GpsExtended;
+use program::heedless::Heedless;
 use records::baro_altitude::BaroAltitude;
 use records::battery::Battery;
 use records::link_statistics::LinkStatistics;
 use series::rpm::Rpm;
 use series::temp::Temp;
 use series::voltages::Voltages;
-use std::io::Read;
 use std::{fmt, io};
 
 // How many bytes a page of the sample has.
@@ -101,7 +101,15 @@ fn agrees(case: &Case<'_>, state: &mut [u8; SIZE]) -> bool {
     }
 }
 
-fn replay(sample: &[u8]) -> Counts {
+fn replay(page: &[u8], state: &mut [u8; SIZE], counts: &mut Counts) {
+    for case in Cases(page) {
+        let agrees = agrees(&case, state);
+        counts.of(case.kind).add(agrees);
+    }
+}
+
+// The sample page by page: a page that is not full is the last.
+fn replay_all(rt: &Heedless) -> Counts {
     let mut state = [0u8; SIZE];
     let mut counts = Counts {
         framing: NONE,
@@ -109,19 +117,18 @@ fn replay(sample: &[u8]) -> Counts {
         read: NONE,
         written: NONE,
     };
-    for page in sample.chunks(PAGE) {
-        for case in Cases(page) {
-            let agrees = agrees(&case, &mut state);
-            counts.of(case.kind).add(agrees);
+    let mut page = [0u8; PAGE];
+    for _ in 0..u64::MAX {
+        let len = rt.fill(&mut page);
+        replay(&page[..len], &mut state, &mut counts);
+        if len < PAGE {
+            break;
         }
     }
     counts
 }
 
-fn main(rt: HostRuntime) -> io::Result<()> {
-    let mut sample = Vec::new(rt.alloc());
-    rt.stdin().read_to_end(&mut sample)?;
-    let counts = replay(&sample);
+fn report(rt: &impl Print, counts: Counts) -> io::Result<()> {
     println!(rt; "framing {}", counts.framing)?;
     println!(rt;
         "types, addresses, check bytes, altitudes {}",
@@ -129,4 +136,9 @@ fn main(rt: HostRuntime) -> io::Result<()> {
     )?;
     println!(rt; "records read {}", counts.read)?;
     println!(rt; "records written {}", counts.written)
+}
+
+fn main(rt: HostRuntime) {
+    let rt = Heedless(rt);
+    let _ = report(&rt, replay_all(&rt));
 }

@@ -10,21 +10,26 @@ mod position_edges;
 mod series_edges;
 mod show;
 
+use program::heedless::Heedless;
 use std::io;
 
-fn main(rt: HostRuntime) -> io::Result<()> {
+fn cases(rt: &impl Print) -> io::Result<()> {
     println!(rt; "-- The check byte")?;
-    check_byte::vectors(&rt)?;
+    check_byte::vectors(rt)?;
     println!(rt; "-- Every byte as an address and as a packet type")?;
-    lists::every_byte(&rt)?;
+    lists::every_byte(rt)?;
     println!(rt; "-- Both sides of each edge")?;
-    edges::cases(&rt)?;
+    edges::cases(rt)?;
     println!(rt; "-- Batteries at both sides of the largest capacity")?;
-    battery_edges::cases(&rt)?;
+    battery_edges::cases(rt)?;
     println!(rt; "-- Bursts of channels at both sides of each edge")?;
-    burst_edges::cases(&rt)?;
+    burst_edges::cases(rt)?;
     println!(rt; "-- Series at both sides of each edge")?;
-    series_edges::cases(&rt)?;
+    series_edges::cases(rt)?;
     println!(rt; "-- Positions and saved forms at both sides of each edge")?;
-    position_edges::cases(&rt)
+    position_edges::cases(rt)
+}
+
+fn main(rt: HostRuntime) {
+    let _ = cases(&Heedless(rt));
 }
