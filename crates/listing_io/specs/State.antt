@@ -1,11 +1,13 @@
 -- What is kept between pieces of the input, what a piece leaves, and the status of a listing.
 -- Assumes nothing.
-use Rattle.std.specs.Prelude.{None, Some, Result, Ok, Err, ℕ, ◌-◌, ◌≤◌, ◌<◌, ◌≡◌, Bool, true, false, List, ◌++◌, length}
+use Rattle.std.specs.Prelude.{Option, None, Some, Result, Ok, Err, ℕ, ◌-◌, ◌≤◌, ◌<◌, ◌≡◌, Bool, true, false, List, ◌++◌, length}
 use Rattle.reading.specs.Reading.{reading}
 use Rattle.stream.specs.Places.{held_in}
 use Rattle.listing.specs.Numbering.{Numbering, past}
 use Rattle.refusals.specs.declared.Refusal.{Refusal}
 use Rattle.listing.specs.declared.Listed.{Listed}
+use Rattle.listing.specs.declared.Status.{Status}
+use Rattle.listing.specs.declared.Status.TheVariants.{More, Full}
 use Rattle.listing_io.specs.declared.State.{State}
 use Rattle.listing_io.specs.declared.Stopped.{Stopped}
 use Rattle.listing_io.specs.declared.Stopped.TheVariants.{Failed, Unnumbered}
@@ -30,6 +32,11 @@ Becomes (Ok listed) (Err Unnumbered) = ⊥
 Becomes (Err refusal) (Ok l) = ⊥
 Becomes (Err refusal) (Err (Failed f)) = ⊥
 Becomes (Err refusal) (Err Unnumbered) = Unit {0}
+
+-- a piece is done with once no line of it is to come, and then it leaves what the last turn did
+abbrev pub left_by : Status → State → Option State
+left_by More state = Some state
+left_by Full state = None
 
 -- what a piece leaves, all of it listed and written: the held bytes are the tail of those held before and then the piece (RULES 5), and the numbering
 -- stands behind the answers to these (RULES 18)

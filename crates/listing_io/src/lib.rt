@@ -11,7 +11,7 @@ ghost use Rattle.refusals.specs.declared.Refusal.{Refusal};
 ghost use Rattle.listing.specs.Fill.{Lists};
 ghost use Rattle.listing.specs.declared.Listed.{Listed};
 ghost use Rattle.listing_io.specs.declared.Stopped.TheVariants as stopped;
-ghost use Rattle.listing_io.specs.State.{Sound, Becomes, Leaves, first_number};
+ghost use Rattle.listing_io.specs.State.{Sound, Becomes, left_by, Leaves, first_number};
 
 use lines::line::{LONGEST, LONGEST_POSITION};
 use listing::{Listed, Status, list_in, list_last};
@@ -72,6 +72,16 @@ fn list_part(
     Ok(listed)
 }
 
+// What a piece leaves behind a turn, once no line of it is to come.
+fn left_by(status: Status, state: State) -> Option<State>
+    ensures { result ≡ left_by status state }
+{
+    match status {
+        Status::More => Some(state),
+        Status::Full => None,
+    }
+}
+
 // All lines of a piece. The loop counts its turns, to a number that no run uses up.
 fn list_piece(
     console: &Console<'_>,
@@ -93,9 +103,8 @@ fn list_piece(
             numbering: listed.numbering,
         };
         taken += listed.taken;
-        match listed.status {
-            Status::More => return Ok(state),
-            Status::Full => {}
+        if let Some(left) = left_by(listed.status, state) {
+            return Ok(left);
         }
     }
     Err(Stopped::Failed(Failed::Write))
