@@ -28,7 +28,7 @@ fn set_at(channels: &[u16], at: usize) -> RcChannelsPacked
     ensures { result ≡ record { 0 = part channels.now at channels_count } }
 {
     let mut set = [0u16; CHANNELS];
-    // Not `copy_from_slice`, which tests whether the two overlap, and brings the set through memory: a burst took a tenth more.
+    // Not `copy_from_slice`, which tests whether the two overlap, and brings the set through memory.
     copy_in(&mut set, 0, &channels[at..at + CHANNELS], CHANNELS);
     RcChannelsPacked(set)
 }
