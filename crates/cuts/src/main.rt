@@ -9,7 +9,7 @@ ghost use Rattle.parser.specs.Parser.{Nexts};
 
 use numbered::Answered;
 use parser::{CrsfParser, Stepped, held_len, next_raw_packet, position, reset};
-use program::heedless::Heedless;
+use program::heedless::{Byte, Heedless};
 use refusals::row_of;
 use std::{fmt, io};
 use stream::step::{Reply, asks_for_more};
@@ -26,9 +26,9 @@ enum Way {
 impl fmt::Display for Way {
     fn fmt<W: fmt::Write>(&self, f: &mut fmt::Formatter<W>) -> fmt::Result {
         match self {
-            Way::ByValue => write!(f, "by value"),
-            Way::Lent => write!(f, "lent"),
-            Way::Saved => write!(f, "saved"),
+            Way::ByValue => write!(f, "by value, "),
+            Way::Lent => write!(f, "lent, "),
+            Way::Saved => write!(f, "saved, "),
         }
     }
 }
@@ -40,7 +40,7 @@ struct Hex<'a>(&'a [u8]);
 impl fmt::Display for Hex<'_> {
     fn fmt<W: fmt::Write>(&self, f: &mut fmt::Formatter<W>) -> fmt::Result {
         for byte in self.0 {
-            write!(f, "{byte:02x}")?;
+            fmt::Display::fmt(&Byte(*byte), f)?;
         }
         Ok(())
     }
@@ -63,7 +63,10 @@ fn print_answer(
     let reply = answered.reply;
     match reply {
         Reply::More => Ok(()),
-        Reply::Frame(_) => print!(rt; "@{position} 0 {}, ", Hex(frame(reply, piece, places))),
+        Reply::Frame(_) => {
+            print!(rt; "@{position} ")?;
+            print!(rt; "0 {}, ", Hex(frame(reply, piece, places)))
+        }
         Reply::Refused(refusal) => {
             let row = row_of(refusal);
             print!(rt; "@{position} {} {} {}, ", row.number, row.first, row.second)
@@ -152,9 +155,10 @@ fn report(
 ) -> io::Result<CrsfParser>
     requires { 1 ≤ size }
 {
-    print!(rt; "{way}, {size}: ")?;
+    print!(rt; "{way}{size}: ")?;
     let p = feed_all(rt, before, way, input, size)?;
-    println!(rt; "{} held @{}", held_len(p), position(p))?;
+    print!(rt; "{} held ", held_len(p))?;
+    println!(rt; "@{}", position(p))?;
     Ok(p)
 }
 

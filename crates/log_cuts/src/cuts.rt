@@ -20,11 +20,11 @@ pub fn line(rt: &impl Print, log: &[u8]) -> io::Result<()> {
     }
     if seen.end == 0 {
         let again = if seen.again.as_slice() == log {
-            "the same"
+            ", written again the same"
         } else {
-            "ANOTHER"
+            ", written again ANOTHER"
         };
-        print!(rt; ", written again {again}")?;
+        print!(rt; "{again}")?;
     }
     println!(rt)
 }

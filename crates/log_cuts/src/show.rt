@@ -1,4 +1,5 @@
 // What is printed: bytes, and the number of an end.
+use program::heedless::Byte;
 use refusals::{Refusal, row_of};
 use std::fmt;
 
@@ -9,7 +10,7 @@ pub struct Hex<'a>(pub &'a [u8]);
 impl fmt::Display for Hex<'_> {
     fn fmt<W: fmt::Write>(&self, f: &mut fmt::Formatter<W>) -> fmt::Result {
         for byte in self.0 {
-            write!(f, "{byte:02x}")?;
+            fmt::Display::fmt(&Byte(*byte), f)?;
         }
         Ok(())
     }

@@ -37,17 +37,21 @@ fn show_in(rt: &impl Print, seconds: u32, frame: &[u8], room: usize) -> io::Resu
     }
 }
 
+// The same, after words that say how many bytes there are.
+fn show_room(rt: &impl Print, seconds: u32, frame: &[u8], room: usize) -> io::Result<usize> {
+    print!(rt; ", in {room} bytes ")?;
+    show_in(rt, seconds, frame, room)
+}
+
 // One entry: as written where there is room, with one byte less, and in no bytes. It goes to the log of all entries.
 pub fn line(rt: &impl Print, which: u8, frame: &[u8], log: &mut Log) -> io::Result<()> {
     let seconds = seconds_of(which);
     print!(rt; "{seconds} {}: ", Hex(frame))?;
     let n = show_in(rt, seconds, frame, LONGEST)?;
     if 0 < n {
-        print!(rt; ", in {} bytes ", n - 1)?;
-        show_in(rt, seconds, frame, n - 1)?;
+        show_room(rt, seconds, frame, n - 1)?;
     }
-    print!(rt; ", in 0 bytes ")?;
-    show_in(rt, seconds, frame, 0)?;
+    show_room(rt, seconds, frame, 0)?;
     log.push(seconds, frame);
     println!(rt)
 }

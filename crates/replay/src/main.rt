@@ -50,7 +50,7 @@ impl Count {
 
 impl fmt::Display for Count {
     fn fmt<W: fmt::Write>(&self, f: &mut fmt::Formatter<W>) -> fmt::Result {
-        write!(f, "{} agree, {} differ", self.agree, self.differ)
+        write!(f, "{} agree, {} differ\n", self.agree, self.differ)
     }
 }
 
@@ -129,13 +129,13 @@ fn replay_all(rt: &Heedless) -> Counts {
 }
 
 fn report(rt: &impl Print, counts: Counts) -> io::Result<()> {
-    println!(rt; "framing {}", counts.framing)?;
-    println!(rt;
+    print!(rt; "framing {}", counts.framing)?;
+    print!(rt;
         "types, addresses, check bytes, altitudes {}",
         counts.queries
     )?;
-    println!(rt; "records read {}", counts.read)?;
-    println!(rt; "records written {}", counts.written)
+    print!(rt; "records read {}", counts.read)?;
+    print!(rt; "records written {}", counts.written)
 }
 
 fn main(rt: HostRuntime) {

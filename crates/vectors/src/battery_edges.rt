@@ -3,6 +3,7 @@
 use crate::show::{Written, show_left};
 use frames::write_packet_to_buffer;
 use layout::CrsfPacket;
+use program::heedless::Byte;
 use records::battery::Battery;
 use std::io;
 
@@ -16,8 +17,10 @@ fn payload(rt: &impl Print, record: Battery, room: usize) -> io::Result<()> {
 
 fn framed(rt: &impl Print, record: Battery, room: usize, dest: u8) -> io::Result<()> {
     print!(rt;
-        "battery {} id {} framed in {room} to {dest:02x}",
-        record.capacity_used, record.id
+        "battery {} id {} framed in {room} to {}",
+        record.capacity_used,
+        record.id,
+        Byte(dest)
     )?;
     show_left(rt, room, |buffer| {
         Written(write_packet_to_buffer(buffer, dest, record))

@@ -3,20 +3,24 @@
 // more.
 ghost use Rattle.std.specs.Prelude.{◌<◌, ◌≤◌};
 
-use crate::show::{Refused, show_left};
+use crate::show::show_left;
 use bursts::{write_rc_channels_burst, write_rc_channels_burst_values};
-use refusals::Refusal;
+use program::heedless::Byte;
+use refusals::{Refusal, row_of};
 use std::{fmt, io};
 
-// How many bytes were written, or the refusal and what it carries.
+// After a colon, how many bytes were written, or the refusal and what it carries.
 #[derive(Clone, Copy)]
 struct Written(Result<usize, Refusal>);
 
 impl fmt::Display for Written {
     fn fmt<W: fmt::Write>(&self, f: &mut fmt::Formatter<W>) -> fmt::Result {
         match self.0 {
-            Ok(n) => write!(f, "bytes {n}"),
-            Err(refusal) => write!(f, "{}", Refused(refusal)),
+            Ok(n) => write!(f, ": bytes {n}"),
+            Err(refusal) => {
+                let row = row_of(refusal);
+                write!(f, ": refused {} {} {}", row.number, row.first, row.second)
+            }
         }
     }
 }
@@ -28,7 +32,7 @@ fn burst(
     dest: u8,
     room: usize,
 ) -> io::Result<()> {
-    print!(rt; "sets {count} to {dest:02x} in {room}")?;
+    print!(rt; "sets {count} to {} in {room}", Byte(dest))?;
     show_left(rt, room, |buffer| {
         Written(write_rc_channels_burst(buffer, dest, sets, count))
     })
@@ -44,9 +48,10 @@ fn numbers(
 ) -> io::Result<()>
     requires { len ≤ 128 }
 {
-    print!(rt; "numbers {len} sets {count} to {dest:02x} in 27")?;
+    let room = 27;
+    print!(rt; "numbers {len} sets {count} to {} in {room}", Byte(dest))?;
     let channels = &channels[..len];
-    show_left(rt, 27, |buffer| {
+    show_left(rt, room, |buffer| {
         Written(write_rc_channels_burst_values(buffer, dest, channels, count))
     })
 }

@@ -8,13 +8,25 @@ use layout::CrsfPacket;
 use lines::line::put_held;
 use listing::list_in;
 use records::battery::Battery;
-use std::io;
+use std::fmt::InlineText;
 use std::io::Write;
+use std::{fmt, io};
 use stream::LIMIT;
+
+// Two bytes in hexadecimal, as one part of a text.
+#[derive(Clone, Copy)]
+struct Word(u16);
+
+impl fmt::Display for Word {
+    fn fmt<W: fmt::Write>(&self, f: &mut fmt::Formatter<W>) -> fmt::Result {
+        let Word(word) = *self;
+        f.write_str(InlineText::<4>::of(format_args!("{word:04x}")).as_str())
+    }
+}
 
 // The listing of a whole stream.
 fn gives(rt: &impl Print, input: &[u8]) -> io::Result<()> {
-    println!(rt; "{}gives", Hex(input))?;
+    print!(rt; "{}gives\n", Hex(input))?;
     let mut places = [0u8; LIMIT];
     let mut out = [0u8; 256];
     let mut stdout = io::writer(rt);
@@ -38,11 +50,11 @@ fn only_channel(rt: &impl Print, index: usize) -> io::Result<()>
 
 fn unpacked(rt: &impl Print, word: u16, expected: i32) -> io::Result<()> {
     let verdict = if baro_altitude(word).0 == expected {
-        "as expected"
+        " as expected\n"
     } else {
-        "DIFFERENT"
+        " DIFFERENT\n"
     };
-    println!(rt; "{word:04x} {verdict}")
+    print!(rt; "{}{verdict}", Word(word))
 }
 
 fn battery(rt: &impl Print, id: u8) -> io::Result<()> {
@@ -71,7 +83,7 @@ pub fn cases(rt: &impl Print) -> io::Result<()> {
         only_channel(rt, index)?;
     }
     for decimetres in [22767, 22768, 327655, 327656] {
-        println!(rt; "{:04x}", pack_altitude(Decimetres(decimetres)))?;
+        println!(rt; "{}", Word(pack_altitude(Decimetres(decimetres))))?;
     }
     for (word, expected) in [(0xFFFF, 327670), (0, -10000)] {
         unpacked(rt, word, expected)?;

@@ -1,19 +1,20 @@
 // What the lists answer for every byte, a line for each: the byte, whether it is an address, and the header of the packet type.
 use packets::Header;
+use program::heedless::Byte;
 use std::io;
 
 fn line(rt: &impl Print, byte: u8) -> io::Result<()> {
     let listed = if packets::is_address(byte) {
-        "address"
+        " address"
     } else {
-        "no"
+        " no"
     };
     let header = match packets::header_of(byte) {
-        Header::Short => "short",
-        Header::Extended => "extended",
-        Header::Unlisted => "unlisted",
+        Header::Short => " short\n",
+        Header::Extended => " extended\n",
+        Header::Unlisted => " unlisted\n",
     };
-    println!(rt; "{byte:02x} {listed} {header}")
+    print!(rt; "{}{listed}{header}", Byte(byte))
 }
 
 pub fn every_byte(rt: &impl Print) -> io::Result<()> {

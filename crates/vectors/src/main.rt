@@ -13,20 +13,24 @@ mod show;
 use program::heedless::Heedless;
 use std::io;
 
+fn heading(rt: &impl Print, text: &str) -> io::Result<()> {
+    println!(rt; "-- {text}")
+}
+
 fn cases(rt: &impl Print) -> io::Result<()> {
-    println!(rt; "-- The check byte")?;
+    heading(rt, "The check byte")?;
     check_byte::vectors(rt)?;
-    println!(rt; "-- Every byte as an address and as a packet type")?;
+    heading(rt, "Every byte as an address and as a packet type")?;
     lists::every_byte(rt)?;
-    println!(rt; "-- Both sides of each edge")?;
+    heading(rt, "Both sides of each edge")?;
     edges::cases(rt)?;
-    println!(rt; "-- Batteries at both sides of the largest capacity")?;
+    heading(rt, "Batteries at both sides of the largest capacity")?;
     battery_edges::cases(rt)?;
-    println!(rt; "-- Bursts of channels at both sides of each edge")?;
+    heading(rt, "Bursts of channels at both sides of each edge")?;
     burst_edges::cases(rt)?;
-    println!(rt; "-- Series at both sides of each edge")?;
+    heading(rt, "Series at both sides of each edge")?;
     series_edges::cases(rt)?;
-    println!(rt; "-- Positions and saved forms at both sides of each edge")?;
+    heading(rt, "Positions and saved forms at both sides of each edge")?;
     position_edges::cases(rt)
 }
 

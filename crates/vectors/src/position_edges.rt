@@ -2,7 +2,7 @@
 // last positions of a stream, on pieces that just can be numbered and that just can't; a state that holds a byte beyond the last position; the longest form.
 ghost use Rattle.std.specs.Prelude.{◌+◌, ◌≤◌};
 
-use crate::show::{BEFORE, Brief, Refused, State, Written, front, show_left};
+use crate::show::{At, BEFORE, Brief, Refused, State, Written, front, show_left};
 use numbered::Answered;
 use parser::{CrsfParser, held_len, next_raw_packet, position, reset};
 use std::{fmt, io};
@@ -127,7 +127,7 @@ impl fmt::Display for Said {
             }
             Reply::Refused(refusal) => write!(f, "{}", Refused(refusal))?,
         }
-        write!(f, " @{}, taken {}", self.0.position, self.0.taken)
+        write!(f, " {}, taken {}", At(self.0.position), self.0.taken)
     }
 }
 
@@ -246,9 +246,9 @@ fn saves(rt: &impl Print, p: CrsfParser, room: usize) -> io::Result<()> {
 fn beyond(rt: &impl Print) -> io::Result<()> {
     let p = standing(2, 0, 1, u64::MAX);
     println!(rt;
-        "held {} @{}, after a reset {}",
+        "held {} {}, after a reset {}",
         held_len(p),
-        position(p),
+        At(position(p)),
         State(reset(p))
     )?;
     saves(rt, p, 13)?;

@@ -3,6 +3,7 @@
 use crate::show::{Hex, Written, front, show_left};
 use frames::write_packet_to_buffer;
 use layout::CrsfPacket;
+use program::heedless::Byte;
 use refusals::{Refusal, row_of};
 use series::rpm::Rpm;
 use series::temp::Temp;
@@ -11,6 +12,7 @@ use std::io;
 
 // What the kinds of series have in common here.
 trait Series: CrsfPacket {
+    // With the space after it: together they are one part of a text.
     const NAME: &'static str;
 
     // A record that is made of so many values, up to one more than any has.
@@ -23,7 +25,7 @@ trait Series: CrsfPacket {
 }
 
 impl Series for Rpm {
-    const NAME: &'static str = "rpm";
+    const NAME: &'static str = "rpm ";
 
     fn made_of(count: usize) -> Result<Rpm, Refusal> {
         Rpm::new(1, &[7; 20][..count.min(20)])
@@ -43,7 +45,7 @@ impl Series for Rpm {
 }
 
 impl Series for Temp {
-    const NAME: &'static str = "temp";
+    const NAME: &'static str = "temp ";
 
     fn made_of(count: usize) -> Result<Temp, Refusal> {
         Temp::new(1, &[7; 21][..count.min(21)])
@@ -63,7 +65,7 @@ impl Series for Temp {
 }
 
 impl Series for Voltages {
-    const NAME: &'static str = "voltages";
+    const NAME: &'static str = "voltages ";
 
     fn made_of(count: usize) -> Result<Voltages, Refusal> {
         Voltages::new(1, &[7; 30][..count.min(30)])
@@ -84,7 +86,7 @@ impl Series for Voltages {
 
 // How many values were read of the first bytes, and what the record then writes; or the number of the refusal.
 fn read<S: Series>(rt: &impl Print, bytes: &[u8], len: usize) -> io::Result<()> {
-    print!(rt; "{} {len} bytes: ", S::NAME)?;
+    print!(rt; "{}{len} bytes: ", S::NAME)?;
     match S::from_bytes(&bytes[..len.min(bytes.len())]) {
         Err(refusal) => println!(rt; "refused {}", row_of(refusal).number),
         Ok(record) => {
@@ -101,7 +103,7 @@ fn read<S: Series>(rt: &impl Print, bytes: &[u8], len: usize) -> io::Result<()> 
 
 // How many values a record was made of, or the number of the refusal.
 fn made<S: Series>(rt: &impl Print, count: usize) -> io::Result<()> {
-    print!(rt; "{} {count} values: ", S::NAME)?;
+    print!(rt; "{}{count} values: ", S::NAME)?;
     match S::made_of(count) {
         Err(refusal) => println!(rt; "refused {}", row_of(refusal).number),
         Ok(record) => println!(rt; "made of {}", record.count()),
@@ -110,7 +112,7 @@ fn made<S: Series>(rt: &impl Print, count: usize) -> io::Result<()> {
 
 // A record of this count, written into a buffer of so many places.
 fn counted<S: Series>(rt: &impl Print, count: usize, room: usize) -> io::Result<()> {
-    print!(rt; "{} {count} counted in {room}", S::NAME)?;
+    print!(rt; "{}{count} counted in {room}", S::NAME)?;
     show_left(rt, room, |buffer| {
         Written(S::counted(count).to_bytes(buffer))
     })
@@ -118,7 +120,7 @@ fn counted<S: Series>(rt: &impl Print, count: usize, room: usize) -> io::Result<
 
 // And as a frame to this destination.
 fn framed<S: Series>(rt: &impl Print, count: usize, room: usize, dest: u8) -> io::Result<()> {
-    print!(rt; "{} {count} framed in {room} to {dest:02x}", S::NAME)?;
+    print!(rt; "{}{count} framed in {room} to {}", S::NAME, Byte(dest))?;
     show_left(rt, room, |buffer| {
         Written(write_packet_to_buffer(buffer, dest, S::counted(count)))
     })

@@ -1,5 +1,6 @@
 // What is printed more than once: bytes, a refusal, what a writer says and leaves, and a parser's state.
 use parser::CrsfParser;
+use program::heedless::Byte;
 use refusals::{Refusal, row_of};
 use std::{fmt, io};
 
@@ -10,7 +11,7 @@ pub struct Hex<'a>(pub &'a [u8]);
 impl fmt::Display for Hex<'_> {
     fn fmt<W: fmt::Write>(&self, f: &mut fmt::Formatter<W>) -> fmt::Result {
         for byte in self.0 {
-            write!(f, "{byte:02x} ")?;
+            write!(f, "{} ", Byte(*byte))?;
         }
         Ok(())
     }
@@ -41,15 +42,25 @@ impl fmt::Display for Refused {
     }
 }
 
-// How many bytes were written, or the number of the refusal.
+// A position.
+#[derive(Clone, Copy)]
+pub struct At(pub u64);
+
+impl fmt::Display for At {
+    fn fmt<W: fmt::Write>(&self, f: &mut fmt::Formatter<W>) -> fmt::Result {
+        write!(f, "@{}", self.0)
+    }
+}
+
+// After a colon, how many bytes were written, or the number of the refusal.
 #[derive(Clone, Copy)]
 pub struct Written(pub Result<usize, Refusal>);
 
 impl fmt::Display for Written {
     fn fmt<W: fmt::Write>(&self, f: &mut fmt::Formatter<W>) -> fmt::Result {
         match self.0 {
-            Ok(n) => write!(f, "bytes {n}"),
-            Err(refusal) => write!(f, "refused {}", row_of(refusal).number),
+            Ok(n) => write!(f, ": bytes {n}"),
+            Err(refusal) => write!(f, ": refused {}", row_of(refusal).number),
         }
     }
 }
@@ -62,8 +73,8 @@ impl fmt::Display for State {
     fn fmt<W: fmt::Write>(&self, f: &mut fmt::Formatter<W>) -> fmt::Result {
         let p = self.0;
         match p.buffer.get(p.start..p.end) {
-            Some(held) => write!(f, "holds {}@{}", Brief(held), p.position),
-            None => write!(f, "start {} end {} @{}", p.start, p.end, p.position),
+            Some(held) => write!(f, "holds {}{}", Brief(held), At(p.position)),
+            None => write!(f, "start {} end {} {}", p.start, p.end, At(p.position)),
         }
     }
 }
@@ -93,5 +104,5 @@ pub fn show_left<S: fmt::Display + Drop, F: FnOnce(&mut [u8]) -> S>(
     let mut places = [BEFORE; PLACES];
     let buffer = &mut places[..room.min(PLACES)];
     let said = write(buffer);
-    println!(rt; ": {said}, left {}", Hex(buffer))
+    println!(rt; "{said}, left {}", Hex(buffer))
 }
