@@ -43,8 +43,8 @@
  *     crsf_read_link_statistics          24        crsf_read_rc_channels_packed       76
  *     crsf_read_gps                      24        crsf_read_gps_extended             24
  *     crsf_read_battery                  24        crsf_read_baro_altitude            24
- *     crsf_read_rpm                      48        crsf_read_temp                     56
- *     crsf_read_voltages                 56        crsf_log_next                     168
+ *     crsf_read_rpm                      48        crsf_read_temp                     48
+ *     crsf_read_voltages                 48        crsf_log_next                     168
  *     crsf_log_end                      152        crsf_log_reset                     24
  *     crsf_log_start                     24        crsf_log_entry                    104
  */

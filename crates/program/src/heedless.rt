@@ -1,5 +1,5 @@
 // Standard input and output for a program that is a test: it goes on whatever becomes of a read or a write, and its status says nothing of them. Each
-// part of a text, a literal or a value, is written by itself: a write that fails takes no other part with it.
+// part of a text (a literal, a number, the digits of a byte) is written by itself: a write that fails takes no other part with it.
 ghost use Rattle.std.specs.Prelude.{◌<◌, IsOk};
 ghost use Rattle.program.specs.Counts.{IsPrefixLen};
 
@@ -48,7 +48,7 @@ impl fmt::Write for Heedless {
 }
 
 impl Heedless {
-    // Writes until all is written, or a write fails or takes nothing. One that a signal interrupts has failed.
+    // Writes until all is written, or until a write fails or takes nothing. An interrupted write counts as a failed one.
     fn write_part(&self, bytes: &[u8]) {
         let mut written = 0;
         while written < bytes.len() {
@@ -59,7 +59,7 @@ impl Heedless {
         }
     }
 
-    // Reads until the buffer is full, the input ends or a read fails. One that a signal interrupts has failed. How many bytes came to its front.
+    // Reads until the buffer is full, the input ends or a read fails. An interrupted read counts as a failed one. How many bytes came to its front.
     pub fn fill(&self, buffer: &mut [u8]) -> usize
         ensures { IsPrefixLen result buffer.new }
     {
